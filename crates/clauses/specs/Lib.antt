@@ -1,0 +1,4 @@
+pub mod Limits
+pub mod Literals
+pub mod Clauses
+pub mod Refusals
