@@ -20,5 +20,9 @@ pub fn negated(literal: u32) -> bool
 pub fn flip(literal: u32) -> u32
     ensures { λ r. ⌜ r ≡ flip literal ⌝ }
 {
-    if negated(literal) { literal - 1 } else { literal + 1 }
+    if negated(literal) {
+        literal - 1
+    } else {
+        literal + 1
+    }
 }

@@ -1,0 +1,9 @@
+pub mod Computed
+pub mod Distinct
+pub mod Inverting
+pub mod PatternSizes
+pub mod KindLaws
+pub mod Rows
+pub mod TwoTable
+pub mod WideLiterals
+pub mod WidePlaces

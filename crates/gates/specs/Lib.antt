@@ -1,0 +1,3 @@
+pub mod Kinds
+pub mod TwoInput
+pub mod WideGates
