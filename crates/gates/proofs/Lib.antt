@@ -1,5 +1,6 @@
 pub mod Computed
 pub mod Distinct
+pub mod Evaluating
 pub mod Inverting
 pub mod PatternSizes
 pub mod KindLaws

@@ -1,3 +1,4 @@
 pub mod Kinds
+pub mod Nodes
 pub mod TwoInput
 pub mod WideGates
