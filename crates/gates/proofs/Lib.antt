@@ -1,7 +1,9 @@
 pub mod Computed
 pub mod Distinct
 pub mod Evaluating
+pub mod Inserting
 pub mod Inverting
+pub mod Opposing
 pub mod PatternSizes
 pub mod KindLaws
 pub mod Rows
