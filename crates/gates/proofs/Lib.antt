@@ -1,6 +1,7 @@
 pub mod Computed
 pub mod Distinct
 pub mod Evaluating
+pub mod Filling
 pub mod Inserting
 pub mod Inverting
 pub mod Opposing

@@ -12,7 +12,7 @@ use Rattle.clauses.specs.Literals.{literal}
 use Rattle.gates.specs.declared.kinds.Slot.{Slot}
 use Rattle.gates.specs.declared.kinds.Slot.the-variants.{Operand, Output}
 use Rattle.gates.specs.declared.kinds.SlotLiteral.{SlotLiteral}
-use Rattle.gates.specs.Kinds.{Kind, Sized, in-place, same-slot, same-sign, same-literal, stands-in, well-formed, all-well-formed}
+use Rattle.gates.specs.Kinds.{Kind, Sized, past-end, in-place, same-slot, same-sign, same-literal, stands-in, well-formed, all-well-formed}
 use Rattle.gates.proofs.Computed.{and-left, and-right}
 use Rattle.gates.proofs.Distinct.{Distinct, few-distinct}
 
@@ -84,3 +84,9 @@ pub pattern-short : (K : Kind) → Sized K → (c i : ℕ) → c < K .codes → 
 pattern-short K s c i h =
     let few : K .arity c ≤ 8 = s .few-operands c h in
     omega (arith, short (K .arity c) (getD (K .patterns c) i []) (well-formed-at (K .arity c) (K .patterns c) i (s .well-formed-patterns c h)))
+
+-- each literal of a well-formed pattern is over its operands and its output
+pub in-place-at : (k : ℕ) (p : List SlotLiteral) (j : ℕ) → T (well-formed k p) → j < length p → T (in-place k (getD p j past-end .slot))
+in-place-at k [] j t h = absurd (omega arith)
+in-place-at k (l ∷ p) zero t h = and-left _ _ t
+in-place-at k (l ∷ p) (suc j) t h = in-place-at k p j (and-right (not (stands-in l p)) _ (and-right (in-place k (l .slot)) _ t)) (omega arith)

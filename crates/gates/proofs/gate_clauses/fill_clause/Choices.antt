@@ -1,0 +1,14 @@
+use mathlib.Core.Path.{_≡_}
+use mathlib.Core.List.{List, []}
+use lib.ListN.{length, getD}
+use Rattle.gates.specs.declared.kinds.SlotLiteral.{SlotLiteral}
+use Rattle.gates.specs.Nodes.{node-of}
+use Rattle.gates.specs.GateClauses.{put-in, written-over}
+use Rattle.gates.proofs.Filling.{filled}
+use Rattle.gates.proofs.gate_clauses.fill_clause.Given as given
+
+abbrev pub Inv-loop-place : given.InvT-loop-place
+Inv-loop-place g l =
+    let pattern = getD (g .G·GateKind .kind .patterns (l .node .code)) (l .index) [] in
+    let made = filled (put-in (l .output) (node-of (l .node) .operands)) pattern (l .place) in
+    (l .count ≡ length made) × (l .out ≡ written-over made (l .entry .out))
