@@ -14,7 +14,7 @@ use Rattle.gates.specs.Kinds.{past-end}
 use Rattle.gates.specs.GateClauses.{insert, insert-all, written-over, both-ways, kept-length}
 use Rattle.gates.proofs.Inserting.{length-insert, insert-all-push}
 
-length-insert-all : (ls cs : List ℕ) → length (insert-all ls cs) ≤ length cs + length ls
+pub length-insert-all : (ls cs : List ℕ) → length (insert-all ls cs) ≤ length cs + length ls
 length-insert-all [] cs = omega arith
 length-insert-all (l ∷ ls) cs = omega (arith, length-insert-all ls (insert l cs), length-insert l cs)
 
@@ -25,11 +25,11 @@ over-over xs ys out l =
     let n : length ys ≡ length xs + k = omega arith in
     ap (λ zs. ys ++ zs)
     (
-      ap (λ m. drop m (xs ++ drop (length xs) out)) n
-      ∙ sym (drop-drop k (length xs) (xs ++ drop (length xs) out))
-      ∙ ap (drop k) (drop-at xs (drop (length xs) out) (length xs) refl)
-      ∙ drop-drop k (length xs) out
-      ∙ ap (λ m. drop m out) (sym n)
+    ap (λ m. drop m (xs ++ drop (length xs) out)) n
+    ∙ sym (drop-drop k (length xs) (xs ++ drop (length xs) out))
+    ∙ ap (drop k) (drop-at xs (drop (length xs) out) (length xs) refl)
+    ∙ drop-drop k (length xs) out
+    ∙ ap (λ m. drop m out) (sym n)
     )
 
 module _ (f : SlotLiteral → ℕ) (p : List SlotLiteral) where

@@ -47,6 +47,7 @@ insert-absent c xs p l b a = insert-past c xs p l b ∙ ap (λ ys. take p xs ++ 
         let m : drop p xs ≡ getD xs p 0 ∷ drop (p + 1) xs = drop-more xs p 0 h in
         let q : getD xs p 0 ≡ x = cc in
         omega (arith, a h)
+
     front : (ys : List ℕ) → ((x : ℕ) (zs : List ℕ) → ys ≡ x ∷ zs → c < x) → insert c ys ≡ c ∷ ys
     front [] f = refl
     front (x ∷ zs) f =
@@ -64,8 +65,10 @@ module _ (c : ℕ) (buf : List ℕ) (n p : ℕ) (room : n < length buf) (le : p 
     where
       moved : List ℕ
       moved = take (n - p) (drop p buf)
+
       moved-is : moved ≡ drop p (take n buf)
       moved-is = sym (drop-take p (n - p) buf) ∙ ap (λ k. drop p (take k buf)) (omega arith)
+
       spread : paste buf (p + 1) (drop p buf) (n - p) ≡ take p buf ++ getD buf p 0 ∷ (moved ++ drop (n + 1) buf)
       spread =
           ap₂ (λ xs k. (xs ++ moved) ++ drop k buf) (take-more buf p 0 (omega arith)) (omega arith)

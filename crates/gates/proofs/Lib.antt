@@ -3,6 +3,9 @@ pub mod Distinct
 pub mod Evaluating
 pub mod Filling
 pub mod Inserting
+pub mod GateLaw
+pub mod InstanceLaw
+pub mod InstanceShape
 pub mod Inverting
 pub mod Opposing
 pub mod PatternSizes

@@ -70,7 +70,12 @@ fn both_ways(clause: &[u32]) -> bool
 }
 
 // Fills the front of `out` with the instance of a node's pattern; answers its length, or nothing where it is left out.
-pub fn fill_clause<G: GateKind>(node: &NodeRecord, output: u16, index: u8, out: &mut [u32]) -> Option<usize>
+pub fn fill_clause<G: GateKind>(
+    node: &NodeRecord,
+    output: u16,
+    index: u8,
+    out: &mut [u32],
+) -> Option<usize>
     requires known { ⌜ now node .code < G·GateKind .kind .codes ⌝ }
     requires full { ⌜ length (node-of (now node) .operands) ≡ G·GateKind .kind .arity (now node .code) ⌝ }
     requires within { ⌜ index < length (G·GateKind .kind .patterns (now node .code)) ⌝ }
@@ -83,7 +88,11 @@ pub fn fill_clause<G: GateKind>(node: &NodeRecord, output: u16, index: u8, out: 
         let literal = put_in(node, output, G::pattern_literal(node.code, index, place));
         count = insert(literal, out, count);
     }
-    if both_ways(&out[0..count]) { None } else { Some(count) }
+    if both_ways(&out[0..count]) {
+        None
+    } else {
+        Some(count)
+    }
 }
 
 // States what the clauses of a gate say, for every kind: the law is this contract.

@@ -15,7 +15,11 @@ impl NodeRecord {
     {
         let mut kept = [0; 8];
         kept[0..operands.len()].copy_from_slice(operands);
-        NodeRecord { code, count: operands.len() as u8, operands: kept }
+        NodeRecord {
+            code,
+            count: operands.len() as u8,
+            operands: kept,
+        }
     }
 }
 

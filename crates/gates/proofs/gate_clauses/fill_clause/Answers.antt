@@ -35,8 +35,7 @@ loop-place-again g c =
     let node = node-of (c .args .node .now) in
     let pattern = getD (g .G·GateKind .kind .patterns (node .code)) (c .args .index) [] in
     let f = put-in (c .args .output) (node .operands) in
-    let literal-is = c .put-in-literal .ensures ∙ ap f (c .pattern-literal .ensures) in
-    (
+    let literal-is = c .put-in-literal .ensures ∙ ap f (c .pattern-literal .ensures) in (
       step-count f pattern (c .args .out .now) (c .loop-place .out) (c .loop-place .place) (c .loop-place .count) (c .put-in-literal .result) (omega arith) (c .loop-place .inv .0) (c .loop-place .inv .1) literal-is (c .insert-count .result) (c .insert-count .ensures .count),
       step-buffer f pattern (c .args .out .now) (c .loop-place .out) (c .loop-place .place) (c .loop-place .count) (c .put-in-literal .result) (omega arith) (c .loop-place .inv .0) (c .loop-place .inv .1) literal-is (c .insert-count .last .clause) (c .insert-count .ensures .buffer),
     )
@@ -47,7 +46,7 @@ part-both-ways-end g c =
     let node = node-of (c .args .node .now) in
     let pattern = getD (K .patterns (node .code)) (c .args .index) [] in
     let few : c .loop-place .count ≤ length (c .loop-place .out) =
-        omega (arith, pattern-short K (g .G·GateKind·met .sized) (node .code) (c .args .index) (c .pre .known), length-filled (put-in (c .args .output) (node .operands)) pattern (c .loop-place .place) (omega arith), c .loop-place .inv .0) in
+    omega (arith, pattern-short K (g .G·GateKind·met .sized) (node .code) (c .args .index) (c .pre .known), length-filled (put-in (c .args .output) (node .operands)) pattern (c .loop-place .place) (omega arith), c .loop-place .inv .0) in
     search needs
 
 pub returns-then-both-ways : need.returns-then-both-ways

@@ -24,7 +24,7 @@ returns c =
     let node = c .args .node .now in
     let negated = c .args .slot-literal .negated in
     c .literal .ensures
-    ∙ elim (c .match-slot-literal .came)
-      [ in-Operand w ↦ ap (λ s. literal s negated) (w .signal-is ∙ operand-signal (c .args .output) (node .count) (w .in-Operand .i) (node .operands) (c .args .slot-literal .slot) (w .in-Operand .is) (omega arith) (c .pre))
+    ∙ elim (c .match-slot-literal .came) [
+      | in-Operand w ↦ ap (λ s. literal s negated) (w .signal-is ∙ operand-signal (c .args .output) (node .count) (w .in-Operand .i) (node .operands) (c .args .slot-literal .slot) (w .in-Operand .is) (omega arith) (c .pre))
       | in-Output w ↦ ap (λ s. literal s negated) (w .signal-is ∙ sym (ap (slot-signal (c .args .output) _) (w .in-Output .is)))
-      ]
+    ]

@@ -12,8 +12,7 @@ node-value-value-requires g c κs =
 pub loop-node-again : need.loop-node-again
 loop-node-again g c =
     let K = g .G·GateKind .kind in
-    let inv = c .loop-node .inv in
-    (
+    let inv = c .loop-node .inv in (
       omega arith,
       length-set _ _ _ ∙ inv .1,
       rest-fits K (c .args .nodes .now) (c .loop-node .at) (c .loop-node .node-index) (c .node-item .result) (c .loop-node-test .taken) (c .node-item .is) (inv .2),

@@ -25,8 +25,7 @@ loop-j-again c =
     let value = value-at (c .args .values .now) in
     let j = c .loop-j .j in
     let room : j < length (c .loop-j .row) = omega arith in
-    let inside : j < length operands = omega arith in
-    (
+    let inside : j < length operands = omega arith in (
       length-set _ _ _ ∙ inv .0,
       take-more-set (c .loop-j .row) j _ room ∙ ap (λ xs. xs ++ value (getD operands j 0) ∷ []) (inv .1) ∙ sym (map-more value operands j 0 inside),
     )

@@ -1,0 +1,27 @@
+-- A literal and the same signal the other way round.
+use mathlib.Core.Path.{_≡_}
+use mathlib.Core.Bool.{Bool, not}
+use mathlib.Core.Logic.{_⊎_}
+use Prim.Native.Nat.{ℕ}
+use native.Mathlib.Omega.{arith}
+use Rattle.clauses.specs.Literals.{signal, flip, literal-value}
+
+pub signal-flip : (c : ℕ) → signal (flip c) ≡ signal c
+unfolding flip
+signal-flip c = grind arith
+
+pub flip-flip : (c : ℕ) → flip (flip c) ≡ c
+unfolding flip
+flip-flip c = grind arith
+
+pub flip-differs : (c : ℕ) → flip c ≡ c → ⊥
+unfolding flip
+flip-differs c = grind arith
+
+pub literal-value-flip : (v : ℕ → Bool) (c : ℕ) → literal-value v (flip c) ≡ not (literal-value v c)
+unfolding flip literal-value
+literal-value-flip v c = grind arith
+
+pub same-signal : (c d : ℕ) → signal c ≡ signal d → (d ≡ c) ⊎ (d ≡ flip c)
+unfolding flip
+same-signal c d e = grind arith

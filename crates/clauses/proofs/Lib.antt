@@ -1,0 +1,3 @@
+pub mod Flips
+pub mod Members
+pub mod Rising
