@@ -1,4 +1,5 @@
 pub mod Limits
 pub mod Literals
 pub mod Clauses
+pub mod Buffers
 pub mod Refusals

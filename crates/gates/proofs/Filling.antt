@@ -11,7 +11,8 @@ use Rattle.std.specs.declared.option.Option.the-variants.{Some, None}
 use Rattle.std.proofs.shelf.Tests.{cond-true, cond-false}
 use Rattle.gates.specs.declared.kinds.SlotLiteral.{SlotLiteral}
 use Rattle.gates.specs.Kinds.{past-end}
-use Rattle.gates.specs.GateClauses.{insert, insert-all, written-over, both-ways, kept-length}
+use Rattle.clauses.specs.Buffers.{written-over}
+use Rattle.gates.specs.GateClauses.{insert, insert-all, both-ways, kept-length}
 use Rattle.gates.proofs.Inserting.{length-insert, insert-all-push}
 
 pub length-insert-all : (ls cs : List ℕ) → length (insert-all ls cs) ≤ length cs + length ls

@@ -11,7 +11,8 @@ use Rattle.std.proofs.shelf.Lists.{append-assoc, take-append-drop, length-take-
 use Rattle.std.specs.Holes.{inserted}
 use Rattle.std.proofs.shelf.Edits.{length-inserted}
 use Rattle.std.proofs.shelf.Tests.{lt-ltb, le-ltb, eq-eqb, ne-eqb, cond-true, cond-false}
-use Rattle.gates.specs.GateClauses.{insert, insert-all, written-over}
+use Rattle.clauses.specs.Buffers.{written-over}
+use Rattle.gates.specs.GateClauses.{insert, insert-all}
 
 -- the first p literals are below c
 abbrev Below : ℕ → List ℕ → ℕ → Type 0

@@ -1,11 +1,11 @@
 -- The clauses of a node: its operator's patterns with signals put in.
 use mathlib.Core.Path.{_≡_}
 use mathlib.Core.Bool.{Bool, true, false, cond, not, _||_}
-use mathlib.Core.List.{List, [], _∷_, _++_, map}
+use mathlib.Core.List.{List, [], _∷_, map}
 use mathlib.Core.Logic.{_↔_}
 use Prim.Native.Nat.{ℕ, _<_, _≤_}
 use lib.Dec.{T, eqb, ltb}
-use lib.ListN.{length, getD, drop}
+use lib.ListN.{length, getD}
 use Rattle.std.specs.declared.option.Option.{Option}
 use Rattle.std.specs.declared.option.Option.the-variants.{Some, None}
 use Rattle.std.specs.shelf.Lists.{All, kept-by}
@@ -43,10 +43,6 @@ instance z operands p = insert-all (map (put-in z operands) p) []
 -- the instance of a node's pattern by its place
 abbrev pub instance-of : Kind → ℕ → Node → ℕ → List ℕ
 instance-of K z node i = instance z (node .operands) (getD (K .patterns (node .code)) i [])
-
--- a buffer with a list written over its front
-abbrev pub written-over : List ℕ → List ℕ → List ℕ
-written-over xs out = xs ++ drop (length xs) out
 
 -- a literal of the first list stands the other way round in the second
 abbrev pub opposed : List ℕ → List ℕ → Bool

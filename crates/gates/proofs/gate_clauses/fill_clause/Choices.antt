@@ -3,7 +3,8 @@ use mathlib.Core.List.{List, []}
 use lib.ListN.{length, getD}
 use Rattle.gates.specs.declared.kinds.SlotLiteral.{SlotLiteral}
 use Rattle.gates.specs.Nodes.{node-of}
-use Rattle.gates.specs.GateClauses.{put-in, written-over}
+use Rattle.clauses.specs.Buffers.{written-over}
+use Rattle.gates.specs.GateClauses.{put-in}
 use Rattle.gates.proofs.Filling.{filled}
 use Rattle.gates.proofs.gate_clauses.fill_clause.Given as given
 
