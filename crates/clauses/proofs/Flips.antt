@@ -1,7 +1,6 @@
--- A literal and the same signal the other way round.
+-- A literal and its flip: one signal, two values.
 use mathlib.Core.Path.{_≡_}
 use mathlib.Core.Bool.{Bool, not}
-use mathlib.Core.Logic.{_⊎_}
 use Prim.Native.Nat.{ℕ}
 use native.Mathlib.Omega.{arith}
 use Rattle.clauses.specs.Literals.{signal, flip, literal-value}
@@ -21,7 +20,3 @@ flip-differs c = grind arith
 pub literal-value-flip : (v : ℕ → Bool) (c : ℕ) → literal-value v (flip c) ≡ not (literal-value v c)
 unfolding flip literal-value
 literal-value-flip v c = grind arith
-
-pub same-signal : (c d : ℕ) → signal c ≡ signal d → (d ≡ c) ⊎ (d ≡ flip c)
-unfolding flip
-same-signal c d e = grind arith

@@ -12,9 +12,9 @@ abbrev pub negated : ℕ → Bool
 negated c = eqb (c % 2) 1
 
 -- the literal of a signal, plain or negated
-abbrev pub literal : ℕ → Bool → ℕ
-literal s true = 2 * s + 1
-literal s false = 2 * s
+abbrev pub literal-of : ℕ → Bool → ℕ
+literal-of s true = 2 * s + 1
+literal-of s false = 2 * s
 
 -- the literal of the same signal the other way round
 unfoldable pub flip : ℕ → ℕ

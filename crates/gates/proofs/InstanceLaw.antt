@@ -8,7 +8,7 @@ use native.Mathlib.Omega.{arith}
 use lib.Dec.{T, eqb, ltb, ltb→lt}
 use lib.ListN.{length, getD}
 use Rattle.std.proofs.shelf.Lists.{getD-map}
-use Rattle.clauses.specs.Literals.{literal, flip, literal-value}
+use Rattle.clauses.specs.Literals.{literal-of, flip, literal-value}
 use Rattle.clauses.specs.Clauses.{holds, Member, member}
 use Rattle.clauses.proofs.Flips.{literal-value-flip}
 use Rattle.clauses.proofs.Members.{holds-at, member-stands}
@@ -24,7 +24,7 @@ or-none true = refl
 or-none false = refl
 
 module _ (v : ℕ → Bool) where
-  value-literal : (s : ℕ) (n : Bool) → literal-value v (literal s n) ≡ cond n (not (v s)) (v s)
+  value-literal : (s : ℕ) (n : Bool) → literal-value v (literal-of s n) ≡ cond n (not (v s)) (v s)
   unfolding literal-value
   value-literal s true = grind arith
   value-literal s false = grind arith

@@ -9,7 +9,7 @@ use lib.Dec.{T, eqb, ltb, ltb→lt}
 use lib.ListN.{length, getD}
 use Rattle.std.specs.shelf.Lists.{All}
 use Rattle.std.proofs.shelf.Lists.{length-map}
-use Rattle.clauses.specs.Literals.{signal, literal, flip}
+use Rattle.clauses.specs.Literals.{signal, literal-of, flip}
 use Rattle.clauses.specs.Clauses.{member, Rising-above, Rising}
 use Rattle.gates.specs.declared.kinds.Slot.{Slot}
 use Rattle.gates.specs.declared.kinds.Slot.the-variants.{Operand, Output}
@@ -69,7 +69,7 @@ module _ (n z : ℕ) (operands : List ℕ) (earlier : Earlier n operands) (own :
   signal-given (Operand i) t = earlier i (ltb→lt i (length operands) t) .0
   signal-given Output t = own
 
-  code-above : (s : ℕ) (m : Bool) → 1 ≤ s → 1 < literal s m
+  code-above : (s : ℕ) (m : Bool) → 1 ≤ s → 1 < literal-of s m
   code-above s true h = omega arith
   code-above s false h = omega arith
 

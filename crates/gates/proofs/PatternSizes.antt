@@ -8,7 +8,7 @@ use native.Mathlib.Omega.{arith}
 use lib.Dec.{T, eqb, ltb}
 use lib.ListN.{length, getD, length-map}
 use Rattle.clauses.specs.Clauses.{Member}
-use Rattle.clauses.specs.Literals.{literal}
+use Rattle.clauses.specs.Literals.{literal-of}
 use Rattle.gates.specs.declared.kinds.Slot.{Slot}
 use Rattle.gates.specs.declared.kinds.Slot.the-variants.{Operand, Output}
 use Rattle.gates.specs.declared.kinds.SlotLiteral.{SlotLiteral}
@@ -22,9 +22,9 @@ slot-number (Operand i) = i + 1
 slot-number Output = 0
 
 abbrev number : SlotLiteral → ℕ
-number l = literal (slot-number (l .slot)) (l .negated)
+number l = literal-of (slot-number (l .slot)) (l .negated)
 
-same-number : (s t : Slot) (m n : Bool) → literal (slot-number s) m ≡ literal (slot-number t) n → T (same-slot s t && same-sign m n)
+same-number : (s t : Slot) (m n : Bool) → literal-of (slot-number s) m ≡ literal-of (slot-number t) n → T (same-slot s t && same-sign m n)
 same-number (Operand i) (Operand j) true true e = grind arith
 same-number (Operand i) (Operand j) true false e = absurd (omega arith)
 same-number (Operand i) (Operand j) false true e = absurd (omega arith)
@@ -42,7 +42,7 @@ same-number Output Output true false e = absurd (omega arith)
 same-number Output Output false true e = absurd (omega arith)
 same-number Output Output false false e = tt
 
-number-below : (k : ℕ) (s : Slot) (n : Bool) → T (in-place k s) → literal (slot-number s) n < 2 * (k + 1)
+number-below : (k : ℕ) (s : Slot) (n : Bool) → T (in-place k s) → literal-of (slot-number s) n < 2 * (k + 1)
 number-below k (Operand i) true t = grind arith
 number-below k (Operand i) false t = grind arith
 number-below k Output true t = omega arith

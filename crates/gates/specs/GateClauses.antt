@@ -9,7 +9,7 @@ use lib.ListN.{length, getD}
 use Rattle.std.specs.declared.option.Option.{Option}
 use Rattle.std.specs.declared.option.Option.the-variants.{Some, None}
 use Rattle.std.specs.shelf.Lists.{All, kept-by}
-use Rattle.clauses.specs.Literals.{literal, flip}
+use Rattle.clauses.specs.Literals.{literal-of, flip}
 use Rattle.clauses.specs.Clauses.{all-hold, member, Rising}
 use Rattle.gates.specs.declared.kinds.Slot.{Slot}
 use Rattle.gates.specs.declared.kinds.Slot.the-variants.{Operand, Output}
@@ -24,7 +24,7 @@ slot-signal z operands Output = z
 
 -- a literal of a pattern with the signal put in
 abbrev pub put-in : ℕ → List ℕ → SlotLiteral → ℕ
-put-in z operands l = literal (slot-signal z operands (l .slot)) (l .negated)
+put-in z operands l = literal-of (slot-signal z operands (l .slot)) (l .negated)
 
 -- a literal put into its place in a rising list, once
 abbrev pub insert : ℕ → List ℕ → List ℕ

@@ -12,7 +12,7 @@ use crate::kinds::Slot;
 use crate::kinds::SlotLiteral;
 use crate::records::NodeRecord;
 use clauses::literals::flip;
-use clauses::literals::literal;
+use clauses::literals::literal_of;
 
 // The most literals that an instance of a pattern can have: two for each of eight operands and the output.
 pub const MAX_INSTANCE: usize = 18;
@@ -26,7 +26,7 @@ fn put_in(node: &NodeRecord, output: u16, slot_literal: SlotLiteral) -> u32
         Slot::Operand(i) => node.operands[i as usize],
         Slot::Output => output,
     };
-    literal(signal, slot_literal.negated)
+    literal_of(signal, slot_literal.negated)
 }
 
 // The first place of a clause whose literal is not below the given one.

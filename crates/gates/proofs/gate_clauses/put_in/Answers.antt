@@ -5,7 +5,7 @@ use native.Mathlib.Omega.{arith}
 use lib.Dec.{T, ltb, ltb→lt}
 use lib.ListN.{getD, length, take}
 use Rattle.std.proofs.shelf.Lists.{getD-take, length-take-le}
-use Rattle.clauses.specs.Literals.{literal}
+use Rattle.clauses.specs.Literals.{literal-of}
 use Rattle.gates.specs.declared.kinds.Slot.{Slot}
 use Rattle.gates.specs.declared.kinds.Slot.the-variants.{Operand, Output}
 use Rattle.gates.specs.Kinds.{in-place}
@@ -23,8 +23,8 @@ pub returns : need.returns
 returns c =
     let node = c .args .node .now in
     let negated = c .args .slot-literal .negated in
-    c .literal .ensures
+    c .literal-of .ensures
     ∙ elim (c .match-slot-literal .came) [
-      | in-Operand w ↦ ap (λ s. literal s negated) (w .signal-is ∙ operand-signal (c .args .output) (node .count) (w .in-Operand .i) (node .operands) (c .args .slot-literal .slot) (w .in-Operand .is) (omega arith) (c .pre))
-      | in-Output w ↦ ap (λ s. literal s negated) (w .signal-is ∙ sym (ap (slot-signal (c .args .output) _) (w .in-Output .is)))
+      | in-Operand w ↦ ap (λ s. literal-of s negated) (w .signal-is ∙ operand-signal (c .args .output) (node .count) (w .in-Operand .i) (node .operands) (c .args .slot-literal .slot) (w .in-Operand .is) (omega arith) (c .pre))
+      | in-Output w ↦ ap (λ s. literal-of s negated) (w .signal-is ∙ sym (ap (slot-signal (c .args .output) _) (w .in-Output .is)))
     ]
