@@ -1,18 +1,14 @@
 -- One turn of the loop that fills a buffer with an instance of a pattern.
 use mathlib.Core.Path.{_≡_, refl, sym, ap, ap₂, _∙_}
-use mathlib.Core.Bool.{true, false}
 use mathlib.Core.List.{List, [], _∷_, _++_, map}
 use Prim.Native.Nat.{ℕ, _+_, _-_, _<_, _≤_}
 use native.Mathlib.Omega.{arith}
 use lib.ListN.{length, getD, take, drop}
 use Rattle.std.proofs.shelf.Lists.{length-map, length-take-le, map-more, take-all, take-at, drop-drop, drop-at}
-use Rattle.std.specs.declared.option.Option.{Option}
-use Rattle.std.specs.declared.option.Option.the-variants.{Some, None}
-use Rattle.std.proofs.shelf.Tests.{cond-true, cond-false}
 use Rattle.gates.specs.declared.kinds.SlotLiteral.{SlotLiteral}
 use Rattle.gates.specs.Kinds.{past-end}
 use Rattle.clauses.specs.Buffers.{written-over}
-use Rattle.gates.specs.GateClauses.{insert, insert-all, both-ways, kept-length}
+use Rattle.gates.specs.GateClauses.{insert, insert-all}
 use Rattle.gates.proofs.Inserting.{length-insert, insert-all-push}
 
 pub length-insert-all : (ls cs : List ℕ) → length (insert-all ls cs) ≤ length cs + length ls
@@ -65,14 +61,8 @@ module _ (f : SlotLiteral → ℕ) (p : List SlotLiteral) where
     abbrev whole : List ℕ
     whole = insert-all (map f p) []
 
-    front-is : take (n - 0) out ≡ whole
-    front-is = ap (take (n - 0)) out-is ∙ take-at (filled i) _ (n - 0) (omega arith) ∙ filled-all i h
+    pub end-front : take (n - 0) out ≡ whole
+    end-front = ap (take (n - 0)) out-is ∙ take-at (filled i) _ (n - 0) (omega arith) ∙ filled-all i h
 
     pub end-buffer : out ≡ written-over whole out₀
     end-buffer = out-is ∙ ap (λ xs. written-over xs out₀) (filled-all i h)
-
-    pub end-left-out : true ≡ both-ways (take (n - 0) out) → None ≡ kept-length whole
-    end-left-out e = sym (cond-true (both-ways whole) None (Some (length whole)) (sym (e ∙ ap both-ways front-is)))
-
-    pub end-kept : false ≡ both-ways (take (n - 0) out) → Some n ≡ kept-length whole
-    end-kept e = ap Some (n-is ∙ ap length (filled-all i h)) ∙ sym (cond-false (both-ways whole) None (Some (length whole)) (sym (e ∙ ap both-ways front-is)))

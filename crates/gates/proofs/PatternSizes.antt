@@ -74,7 +74,7 @@ short : (k : ℕ) (p : List SlotLiteral) → T (well-formed k p) → length p �
 short k p t = rw (length-map p number) at (few-distinct (2 * (k + 1)) (map number p) (distinct-numbers k p t) (numbers-below k p t))
 
 -- every pattern of a list that is well-formed
-pub well-formed-at : (k : ℕ) (ps : List (List SlotLiteral)) (i : ℕ) → T (all-well-formed k ps) → T (well-formed k (getD ps i []))
+well-formed-at : (k : ℕ) (ps : List (List SlotLiteral)) (i : ℕ) → T (all-well-formed k ps) → T (well-formed k (getD ps i []))
 well-formed-at k [] i t = tt
 well-formed-at k (p ∷ ps) zero t = and-left _ _ t
 well-formed-at k (p ∷ ps) (suc i) t = well-formed-at k ps i (and-right (well-formed k p) _ t)
@@ -86,7 +86,12 @@ pattern-short K s c i h =
     omega (arith, short (K .arity c) (getD (K .patterns c) i []) (well-formed-at (K .arity c) (K .patterns c) i (s .well-formed-patterns c h)))
 
 -- each literal of a well-formed pattern is over its operands and its output
-pub in-place-at : (k : ℕ) (p : List SlotLiteral) (j : ℕ) → T (well-formed k p) → j < length p → T (in-place k (getD p j past-end .slot))
+in-place-at : (k : ℕ) (p : List SlotLiteral) (j : ℕ) → T (well-formed k p) → j < length p → T (in-place k (getD p j past-end .slot))
 in-place-at k [] j t h = absurd (omega arith)
 in-place-at k (l ∷ p) zero t h = and-left _ _ t
 in-place-at k (l ∷ p) (suc j) t h = in-place-at k p j (and-right (not (stands-in l p)) _ (and-right (in-place k (l .slot)) _ t)) (omega arith)
+
+pub literal-in-place : (K : Kind) → Sized K → (c i j k : ℕ) (l : SlotLiteral) → c < K .codes → k ≡ K .arity c → j < length (getD (K .patterns c) i []) → l ≡ getD (getD (K .patterns c) i []) j past-end → T (in-place k (l .slot))
+literal-in-place K s c i j k l h e m f =
+    let p : T (in-place (K .arity c) (getD (getD (K .patterns c) i []) j past-end .slot)) = in-place-at (K .arity c) (getD (K .patterns c) i []) j (well-formed-at (K .arity c) (K .patterns c) i (s .well-formed-patterns c h)) m in
+    rw (e, f) p

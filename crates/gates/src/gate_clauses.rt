@@ -70,6 +70,17 @@ fn both_ways(clause: &[u32]) -> bool
     false
 }
 
+// The length of an instance, or nothing where it is left out since a signal stands both ways in it.
+fn kept_length(clause: &[u32]) -> Option<usize>
+    ensures { λ r. ⌜ r ≡ kept-length (now (clause .entry)) ⌝ }
+{
+    if both_ways(clause) {
+        None
+    } else {
+        Some(clause.len())
+    }
+}
+
 // Fills the front of `out` with the instance of a node's pattern; answers its length, or nothing where it is left out.
 pub fn fill_clause<G: GateKind>(
     node: &NodeRecord,
@@ -89,11 +100,7 @@ pub fn fill_clause<G: GateKind>(
         let literal = put_in(node, output, G::pattern_literal(node.code, index, place));
         count = insert(literal, out, count);
     }
-    if both_ways(&out[0..count]) {
-        None
-    } else {
-        Some(count)
-    }
+    kept_length(&out[0..count])
 }
 
 // States what the clauses of a gate say, for every kind: the law is this contract.

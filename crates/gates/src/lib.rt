@@ -14,3 +14,6 @@ pub use nodes::evaluate;
 pub use records::NodeRecord;
 pub use two_input::TwoInput;
 pub use wide::Wide;
+
+#[cfg(test)]
+mod tests;

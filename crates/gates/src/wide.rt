@@ -119,33 +119,33 @@ pub impl GateKind for Wide as WideKind {
     }
 }
 
-// The literal at a place of a pattern of 'and', or of 'or' where `disjunctive`, of so many operands.
-fn plain_literal(disjunctive: bool, operands: u8, index: u8, place: u8) -> SlotLiteral
+// The literal at a place of a pattern of 'and', or of 'or' where `any`, of so many operands.
+fn plain_literal(any: bool, operands: u8, index: u8, place: u8) -> SlotLiteral
     requires within { ⌜ index ≤ operands ⌝ }
-    requires inside { ⌜ place < length (getD (plain-patterns disjunctive operands) index []) ⌝ }
-    ensures { λ r. ⌜ r ≡ getD (getD (plain-patterns disjunctive operands) index []) place past-end ⌝ }
+    requires inside { ⌜ place < length (getD (plain-patterns any operands) index []) ⌝ }
+    ensures { λ r. ⌜ r ≡ getD (getD (plain-patterns any operands) index []) place past-end ⌝ }
 {
     if index < operands {
         if place == 0 {
             SlotLiteral {
                 slot: Slot::Operand(index),
-                negated: disjunctive,
+                negated: any,
             }
         } else {
             SlotLiteral {
                 slot: Slot::Output,
-                negated: !disjunctive,
+                negated: !any,
             }
         }
     } else if place < operands {
         SlotLiteral {
             slot: Slot::Operand(place),
-            negated: !disjunctive,
+            negated: !any,
         }
     } else {
         SlotLiteral {
             slot: Slot::Output,
-            negated: disjunctive,
+            negated: any,
         }
     }
 }
