@@ -1,19 +1,14 @@
--- One turn of the loops that work out operands and nodes.
-use mathlib.Core.Path.{_≡_, sym, ap, _∙_, subst}
+-- One turn of the loop that works out nodes.
+use mathlib.Core.Path.{_≡_, sym, ap, _∙_}
 use mathlib.Core.Bool.{Bool}
 use mathlib.Core.List.{List, [], _∷_, _++_, map}
 use Prim.Native.Nat.{ℕ, _+_, _-_, _<_, _≤_}
 use native.Mathlib.Omega.{arith}
 use lib.ListN.{length, getD, take, drop, set}
-use Rattle.std.proofs.shelf.Lists.{drop-more, at-drop-all, take-more-set, length-take-le, take-all, getD-take}
+use Rattle.std.proofs.shelf.Lists.{drop-more, at-drop-all, take-more-set, take-all}
 use Rattle.gates.specs.declared.records.NodeRecord.{NodeRecord}
 use Rattle.gates.specs.Kinds.{Kind}
-use Rattle.gates.specs.Nodes.{Node, node-of, node-value, values-of, Earlier, Fits, All-fit}
-
--- an operand among the first m is an earlier signal
-pub earlier-at : (n m : ℕ) (operands : List ℕ) → Earlier n (take m operands) → m ≤ length operands → (j : ℕ) → j < m → (1 ≤ getD operands j 0) × (getD operands j 0 ≤ n)
-earlier-at n m operands e l j h =
-    subst (λ (s : ℕ). (1 ≤ s) × (s ≤ n)) (getD-take m operands j 0 h) (e j (omega (arith, length-take-le m operands l)))
+use Rattle.gates.specs.Nodes.{Node, node-of, node-value, values-of}
 
 module _ (K : Kind) (nodes : List NodeRecord) (at i : ℕ) where
   -- the records from the place i on, as nodes
@@ -24,17 +19,6 @@ module _ (K : Kind) (nodes : List NodeRecord) (at i : ℕ) where
   module _ (x : NodeRecord) (h : i < length nodes) (e : x ≡ getD nodes i x) where
     next-is : drop i nodes ≡ x ∷ drop (i + 1) nodes
     next-is = drop-more nodes i x h ∙ ap (λ y. y ∷ drop (i + 1) nodes) (sym e)
-
-    parts : All-fit K at (rest i) → Fits K at (node-of x) × All-fit K (at + 1) (rest (i + 1))
-    parts fit = subst (λ (ns : List NodeRecord). All-fit K at (map node-of ns)) next-is fit
-
-    pub node-fits : All-fit K at (rest i) → (vs : List Bool) → at ≤ length vs → Fits K (length (take (at - 0) vs)) (node-of x)
-    node-fits fit vs room =
-        let m : at ≡ length (take (at - 0) vs) = omega (arith, length-take-le (at - 0) vs (omega arith)) in
-        subst (λ (n : ℕ). Fits K n (node-of x)) m (parts fit .0)
-
-    pub rest-fits : All-fit K at (rest i) → All-fit K (at + 1) (rest (i + 1))
-    rest-fits fit = parts fit .1
 
     pub values-more : (vs : List Bool) (v : Bool) → at < length vs → v ≡ node-value K (node-of x) (take (at - 0) vs) →
         values-of K (rest (i + 1)) (take (at + 1) (set vs at v)) ≡ values-of K (rest i) (take at vs)

@@ -12,11 +12,12 @@ use Rattle.clauses.specs.Clauses.{holds, all-hold, Rising}
 use Rattle.gates.specs.declared.kinds.SlotLiteral.{SlotLiteral}
 use Rattle.gates.specs.Kinds.{Kind, Lawful, Sized, pattern-holds, patterns-hold, well-formed, all-well-formed}
 use Rattle.gates.specs.Nodes.{Node, Earlier, Fits}
-use Rattle.gates.specs.GateClauses.{instance, both-ways, clauses-of, Clauses-law, Gate-law}
+use Rattle.gates.specs.GateClauses.{instance, both-ways, node-patterns, Clauses-law, Gate-law}
 use Rattle.gates.proofs.Computed.{and-left, and-right}
 use Rattle.gates.proofs.InstanceLaw.{holds-instance, both-ways-holds}
 use Rattle.gates.proofs.InstanceShape.{instance-rising, instance-length}
 use Rattle.std.proofs.shelf.Elements.{all-from-getD}
+use Rattle.gates.proofs.Known.{known-patterns, known-fits}
 use Rattle.gates.proofs.PatternSizes.{pattern-short}
 
 -- the instances that are kept
@@ -58,12 +59,15 @@ kept-short m z operands (p ∷ ps) a = go (both-ways (instance z operands p)) (k
 pub gate-law : (K : Kind) → Lawful K → Sized K → Gate-law K
 gate-law K lawful sized n z node fits above = record {
   exact = λ v.
-      let e : all-hold v (clauses-of K z node) ≡ patterns-hold (map v (node .operands)) (v z) (K .patterns (node .code)) = kept-hold v z (node .operands) (K .patterns (node .code)) formed in
-      let law = lawful (node .code) (fits .known) (map v (node .operands)) (length-map (node .operands) v ∙ fits .full) (v z) in
+      let e = ap (λ ps. all-hold v (kept z (node .operands) ps)) these ∙ kept-hold v z (node .operands) (K .patterns (node .code)) formed in
+      let law = lawful (node .code) (fits .in-codes) (map v (node .operands)) (length-map (node .operands) v ∙ fits .full) (v z) in
       (λ t. law .0 (subst T e t), λ q. subst T (sym e) (law .1 q));
-  rising = kept-rising n z (node .operands) (fits .earlier) (omega arith) (K .patterns (node .code)) formed;
-  short = kept-short 18 z (node .operands) (K .patterns (node .code)) (all-from-getD (λ p. length p ≤ 18) (K .patterns (node .code)) [] (λ i h. pattern-short K sized (node .code) i (fits .known)));
+  rising = subst (λ (ps : List (List SlotLiteral)). All Rising (kept z (node .operands) ps)) (sym these) (kept-rising n z (node .operands) (fits .earlier) (omega arith) (K .patterns (node .code)) formed);
+  short = subst (λ (ps : List (List SlotLiteral)). All (λ c. length c ≤ 18) (kept z (node .operands) ps)) (sym these) (kept-short 18 z (node .operands) (K .patterns (node .code)) (all-from-getD (λ p. length p ≤ 18) (K .patterns (node .code)) [] (λ i h. pattern-short K sized (node .code) i (fits .in-codes))));
 }
   where
+    these : node-patterns K node ≡ K .patterns (node .code)
+    these = known-patterns K node (known-fits K node n fits)
+
     formed : T (all-well-formed (length (node .operands)) (K .patterns (node .code)))
-    formed = subst (λ (k : ℕ). T (all-well-formed k (K .patterns (node .code)))) (sym (fits .full)) (sized .well-formed-patterns (node .code) (fits .known))
+    formed = subst (λ (k : ℕ). T (all-well-formed k (K .patterns (node .code)))) (sym (fits .full)) (sized .well-formed-patterns (node .code) (fits .in-codes))

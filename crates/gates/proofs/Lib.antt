@@ -10,6 +10,7 @@ pub mod Inverting
 pub mod Opposing
 pub mod PatternSizes
 pub mod KindLaws
+pub mod Known
 pub mod Rows
 pub mod TwoTable
 pub mod WideLiterals

@@ -15,7 +15,7 @@ use Rattle.gates.specs.declared.kinds.Slot.{Slot}
 use Rattle.gates.specs.declared.kinds.Slot.the-variants.{Operand, Output}
 use Rattle.gates.specs.declared.kinds.SlotLiteral.{SlotLiteral}
 use Rattle.gates.specs.Kinds.{Kind}
-use Rattle.gates.specs.Nodes.{Node, Fits}
+use Rattle.gates.specs.Nodes.{Node, known, Fits}
 
 -- the signal that a slot of a node stands for; z is the node's own
 abbrev pub slot-signal : ℕ → List ℕ → Slot → ℕ
@@ -40,9 +40,13 @@ insert-all (l ∷ ls) cs = insert-all ls (insert l cs)
 abbrev pub instance : ℕ → List ℕ → List SlotLiteral → List ℕ
 instance z operands p = insert-all (map (put-in z operands) p) []
 
+-- the patterns of a node's operator; none of a node that the kind does not know
+abbrev pub node-patterns : Kind → Node → List (List SlotLiteral)
+node-patterns K node = cond (known K node) (K .patterns (node .code)) []
+
 -- the instance of a node's pattern by its place
 abbrev pub instance-of : Kind → ℕ → Node → ℕ → List ℕ
-instance-of K z node i = instance z (node .operands) (getD (K .patterns (node .code)) i [])
+instance-of K z node i = instance z (node .operands) (getD (node-patterns K node) i [])
 
 -- a literal of the first list stands the other way round in the second
 abbrev pub opposed : List ℕ → List ℕ → Bool
@@ -55,7 +59,7 @@ both-ways cs = opposed cs cs
 
 -- the clauses of a node: an instance of each pattern in order; one in which a signal stands both ways is left out
 abbrev pub clauses-of : Kind → ℕ → Node → List (List ℕ)
-clauses-of K z node = kept-by (λ c. not (both-ways c)) (map (instance z (node .operands)) (K .patterns (node .code)))
+clauses-of K z node = kept-by (λ c. not (both-ways c)) (map (instance z (node .operands)) (node-patterns K node))
 
 -- how many literals an instance has, where it is not left out
 abbrev pub kept-length : List ℕ → Option ℕ

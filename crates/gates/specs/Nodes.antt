@@ -1,8 +1,9 @@
 -- Nodes, and the values of all signals: the switches' are given, each node's is its operator's on its operands.
 use mathlib.Core.Path.{_≡_}
-use mathlib.Core.Bool.{Bool, false}
+use mathlib.Core.Bool.{Bool, false, _&&_}
 use mathlib.Core.List.{List, [], _∷_, _++_, map}
-use Prim.Native.Nat.{ℕ, _+_, _-_, _<_, _≤_}
+use Prim.Native.Nat.{ℕ, _+_, _<_, _≤_}
+use lib.Dec.{eqb, ltb}
 use lib.ListN.{length, getD, take}
 use Rattle.gates.specs.declared.records.NodeRecord.{NodeRecord}
 use Rattle.gates.specs.Kinds.{Kind}
@@ -16,15 +17,20 @@ pub record Node : Type 0 where
 abbrev pub node-of : NodeRecord → Node
 node-of r = record { code = r .code; operands = take (r .count) (r .operands) }
 
--- the value of the signal s, where the list has those of the signals 1, 2, .. in order
+-- the value of the signal s, where the list has those of the signals 1, 2, .. in order; of any other signal, off
 abbrev pub value-at : List Bool → ℕ → Bool
-value-at vs s = getD vs (s - 1) false
+value-at vs s = getD (false ∷ vs) s false
+
+-- the kind has the node's code, with as many operands
+abbrev pub known : Kind → Node → Bool
+known K node = ltb (node .code) (K .codes) && eqb (length (node .operands)) (K .arity (node .code))
 
 abbrev pub operand-row : Node → List Bool → List Bool
 operand-row node vs = map (value-at vs) (node .operands)
 
+-- the operator's value on the values of its operands; a node that the kind does not know is off
 abbrev pub node-value : Kind → Node → List Bool → Bool
-node-value K node vs = K .truth (node .code) (operand-row node vs)
+node-value K node vs = known K node && K .truth (node .code) (operand-row node vs)
 
 -- the values of all signals: each node in order puts its value behind those before it
 abbrev pub values-of : Kind → List Node → List Bool → List Bool
@@ -37,11 +43,6 @@ Earlier n operands = (j : ℕ) → j < length operands → (1 ≤ getD operands 
 
 -- a node of the kind over the signals 1 to n
 pub record Fits (K : Kind) (n : ℕ) (node : Node) : Type 0 where
-  pub known : node .code < K .codes
+  pub in-codes : node .code < K .codes
   pub full : length (node .operands) ≡ K .arity (node .code)
   pub earlier : Earlier n (node .operands)
-
--- nodes that are signals n + 1, n + 2, .. in order, each over earlier signals
-abbrev pub All-fit : Kind → ℕ → List Node → Type 0
-All-fit K n [] = Unit {0}
-All-fit K n (node ∷ nodes) = Fits K n node × All-fit K (n + 1) nodes

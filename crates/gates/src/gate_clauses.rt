@@ -6,10 +6,11 @@ ghost use lib.ListN.{length, getD, take};
 ghost use Rattle.clauses.specs.Buffers.{written-over};
 ghost use Rattle.gates.specs.Kinds.{in-place};
 ghost use Rattle.gates.specs.Nodes.{node-of};
-ghost use Rattle.gates.specs.GateClauses.{put-in, insert, both-ways, kept-length, instance-of, Gate-law};
+ghost use Rattle.gates.specs.GateClauses.{put-in, insert, both-ways, kept-length, node-patterns, instance-of, Gate-law};
 use crate::kinds::GateKind;
 use crate::kinds::Slot;
 use crate::kinds::SlotLiteral;
+use crate::nodes::known;
 use crate::records::NodeRecord;
 use clauses::literals::flip;
 use clauses::literals::literal_of;
@@ -81,6 +82,17 @@ fn kept_length(clause: &[u32]) -> Option<usize>
     }
 }
 
+// How many patterns a node's operator has; none where the kind does not know the node.
+pub fn pattern_count_of<G: GateKind>(node: &NodeRecord) -> u8
+    ensures { λ r. ⌜ r ≡ length (node-patterns (G·GateKind .kind) (node-of (now (node .entry)))) ⌝ }
+{
+    if known::<G>(node) {
+        G::pattern_count(node.code)
+    } else {
+        0
+    }
+}
+
 // Fills the front of `out` with the instance of a node's pattern; answers its length, or nothing where it is left out.
 pub fn fill_clause<G: GateKind>(
     node: &NodeRecord,
@@ -88,9 +100,7 @@ pub fn fill_clause<G: GateKind>(
     index: u8,
     out: &mut [u32],
 ) -> Option<usize>
-    requires known { ⌜ now node .code < G·GateKind .kind .codes ⌝ }
-    requires full { ⌜ length (node-of (now node) .operands) ≡ G·GateKind .kind .arity (now node .code) ⌝ }
-    requires within { ⌜ index < length (G·GateKind .kind .patterns (now node .code)) ⌝ }
+    requires within { ⌜ index < length (node-patterns (G·GateKind .kind) (node-of (now node))) ⌝ }
     requires room { ⌜ 18 ≤ length (now out) ⌝ }
     ensures answer { λ r. ⌜ r ≡ kept-length (instance-of (G·GateKind .kind) output (node-of (now (node .entry))) index) ⌝ }
     ensures buffer { λ _. ⌜ now (out .exit) ≡ written-over (instance-of (G·GateKind .kind) output (node-of (now (node .entry))) index) (now (out .entry)) ⌝ }

@@ -1,13 +1,8 @@
 use mathlib.Core.Path.{sym, _∙_}
 use native.Mathlib.Omega.{arith}
 use lib.ListN.{length-set}
-use Rattle.gates.proofs.Evaluating.{node-fits, rest-fits, values-more, values-all}
+use Rattle.gates.proofs.Evaluating.{values-more, values-all}
 use Rattle.gates.proofs.nodes.evaluate.Needs as need
-
-pub node-value-value-requires : need.node-value-value-requires
-node-value-value-requires g c κs =
-    let inv = c .loop-node .inv in
-    node-fits (g .G·GateKind .kind) (c .args .nodes .now) (c .loop-node .at) (c .loop-node .node-index) (c .node-item .result) (c .loop-node-test .taken) (c .node-item .is) (inv .2) (c .loop-node .values) (omega arith)
 
 pub loop-node-again : need.loop-node-again
 loop-node-again g c =
@@ -15,11 +10,10 @@ loop-node-again g c =
     let inv = c .loop-node .inv in (
       omega arith,
       length-set _ _ _ ∙ inv .1,
-      rest-fits K (c .args .nodes .now) (c .loop-node .at) (c .loop-node .node-index) (c .node-item .result) (c .loop-node-test .taken) (c .node-item .is) (inv .2),
-      values-more K (c .args .nodes .now) (c .loop-node .at) (c .loop-node .node-index) (c .node-item .result) (c .loop-node-test .taken) (c .node-item .is) (c .loop-node .values) _ (omega arith) (c .node-value-value .ensures) ∙ inv .3,
+      values-more K (c .args .nodes .now) (c .loop-node .at) (c .loop-node .node-index) (c .node-item .result) (c .loop-node-test .taken) (c .node-item .is) (c .loop-node .values) _ (omega arith) (c .node-value-value .ensures) ∙ inv .2,
     )
 
 pub returns : need.returns
 returns g c =
     let inv = c .loop-node .inv in
-    sym (values-all (g .G·GateKind .kind) (c .args .nodes .now) (c .loop-node .at) (c .loop-node .node-index) (c .loop-node .values) (c .loop-node-test .left) (omega arith)) ∙ inv .3
+    sym (values-all (g .G·GateKind .kind) (c .args .nodes .now) (c .loop-node .at) (c .loop-node .node-index) (c .loop-node .values) (c .loop-node-test .left) (omega arith)) ∙ inv .2
