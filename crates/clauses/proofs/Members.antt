@@ -30,3 +30,8 @@ held-by v (x ∷ xs) t = go (literal-value v x) refl t (held-by v xs)
 pub member-stands : (c : ℕ) (xs : List ℕ) → T (member c xs) → Member c xs
 member-stands c [] t = t
 member-stands c (x ∷ xs) t = let ih : T (member c xs) → Member c xs = member-stands c xs in grind (arith, ih)
+
+pub stands-member : (c : ℕ) (xs : List ℕ) → Member c xs → T (member c xs)
+stands-member c [] m = m
+stands-member c (x ∷ xs) (inl e) = grind (arith, e)
+stands-member c (x ∷ xs) (inr m) = let ih : T (member c xs) = stands-member c xs m in grind arith

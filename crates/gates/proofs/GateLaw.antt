@@ -5,20 +5,20 @@ use mathlib.Core.List.{List, [], _∷_, map}
 use Prim.Native.Nat.{ℕ, _<_, _≤_}
 use native.Mathlib.Omega.{arith}
 use lib.Dec.{T}
-use lib.ListN.{length, getD}
+use lib.ListN.{length}
 use Rattle.std.specs.shelf.Lists.{All, kept-by}
 use Rattle.std.proofs.shelf.Lists.{length-map}
-use Rattle.clauses.specs.Clauses.{holds, all-hold, Rising}
+use Rattle.clauses.specs.Literals.{signal}
+use Rattle.clauses.specs.Clauses.{holds, all-hold, Member, Rising}
 use Rattle.gates.specs.declared.kinds.SlotLiteral.{SlotLiteral}
 use Rattle.gates.specs.Kinds.{Kind, Lawful, Sized, pattern-holds, patterns-hold, well-formed, all-well-formed}
-use Rattle.gates.specs.Nodes.{Node, Earlier, Fits}
-use Rattle.gates.specs.GateClauses.{instance, both-ways, node-patterns, Clauses-law, Gate-law}
+use Rattle.gates.specs.Nodes.{Node, Fits}
+use Rattle.gates.specs.GateClauses.{instance, both-ways, node-patterns, clauses-of, Gate-law}
 use Rattle.gates.proofs.Computed.{and-left, and-right}
 use Rattle.gates.proofs.InstanceLaw.{holds-instance, both-ways-holds}
-use Rattle.gates.proofs.InstanceShape.{instance-rising, instance-length}
-use Rattle.std.proofs.shelf.Elements.{all-from-getD}
+use Rattle.gates.proofs.InstanceShape.{instance-rising, instance-length, instance-within}
 use Rattle.gates.proofs.Known.{known-patterns, known-fits}
-use Rattle.gates.proofs.PatternSizes.{pattern-short}
+use Rattle.gates.proofs.PatternSizes.{short-pattern}
 
 -- the instances that are kept
 abbrev kept : ℕ → List ℕ → List (List SlotLiteral) → List (List ℕ)
@@ -38,23 +38,15 @@ module _ (v : ℕ → Bool) (z : ℕ) (operands : List ℕ) where
       go true f e h = let u : T (holds v (instance z operands p)) = f tt in grind (arith, e, h)
       go false f e h = ap₂ (λ a b. a && b) h e
 
-module _ (n z : ℕ) (operands : List ℕ) (earlier : Earlier n operands) (own : 1 ≤ z) where
-  kept-rising : (ps : List (List SlotLiteral)) → T (all-well-formed (length operands) ps) → All Rising (kept z operands ps)
-  kept-rising [] t = tt
-  kept-rising (p ∷ ps) t =
-      go (both-ways (instance z operands p)) (instance-rising n z operands earlier own p (and-left _ _ t)) (kept-rising ps (and-right (well-formed (length operands) p) _ t))
-    where
-      go : (b : Bool) → (T (not b) → Rising (instance z operands p)) → All Rising (kept z operands ps) → All Rising (cond (not b) (instance z operands p ∷ kept z operands ps) (kept z operands ps))
-      go true f r = r
-      go false f r = (f tt, r)
-
-kept-short : (m z : ℕ) (operands : List ℕ) (ps : List (List SlotLiteral)) → All (λ p. length p ≤ m) ps → All (λ c. length c ≤ m) (kept z operands ps)
-kept-short m z operands [] a = tt
-kept-short m z operands (p ∷ ps) a = go (both-ways (instance z operands p)) (kept-short m z operands ps (a .1))
+-- what holds of every instance that is kept
+kept-all : (P : List ℕ → Type 0) (z : ℕ) (operands : List ℕ) → ((p : List SlotLiteral) → T (well-formed (length operands) p) → T (not (both-ways (instance z operands p))) → P (instance z operands p)) → (ps : List (List SlotLiteral)) → T (all-well-formed (length operands) ps) → All P (kept z operands ps)
+kept-all P z operands f [] t = tt
+kept-all P z operands f (p ∷ ps) t =
+    go (both-ways (instance z operands p)) (f p (and-left _ _ t)) (kept-all P z operands f ps (and-right (well-formed (length operands) p) _ t))
   where
-    go : (b : Bool) → All (λ c. length c ≤ m) (kept z operands ps) → All (λ c. length c ≤ m) (cond (not b) (instance z operands p ∷ kept z operands ps) (kept z operands ps))
-    go true r = r
-    go false r = let s : length p ≤ m = a .0 in (omega (arith, instance-length z operands p), r)
+    go : (b : Bool) → (T (not b) → P (instance z operands p)) → All P (kept z operands ps) → All P (cond (not b) (instance z operands p ∷ kept z operands ps) (kept z operands ps))
+    go true h r = r
+    go false h r = (h tt, r)
 
 pub gate-law : (K : Kind) → Lawful K → Sized K → Gate-law K
 gate-law K lawful sized n z node fits above = record {
@@ -62,8 +54,9 @@ gate-law K lawful sized n z node fits above = record {
       let e = ap (λ ps. all-hold v (kept z (node .operands) ps)) these ∙ kept-hold v z (node .operands) (K .patterns (node .code)) formed in
       let law = lawful (node .code) (fits .in-codes) (map v (node .operands)) (length-map (node .operands) v ∙ fits .full) (v z) in
       (λ t. law .0 (subst T e t), λ q. subst T (sym e) (law .1 q));
-  rising = subst (λ (ps : List (List SlotLiteral)). All Rising (kept z (node .operands) ps)) (sym these) (kept-rising n z (node .operands) (fits .earlier) (omega arith) (K .patterns (node .code)) formed);
-  short = subst (λ (ps : List (List SlotLiteral)). All (λ c. length c ≤ 18) (kept z (node .operands) ps)) (sym these) (kept-short 18 z (node .operands) (K .patterns (node .code)) (all-from-getD (λ p. length p ≤ 18) (K .patterns (node .code)) [] (λ i h. pattern-short K sized (node .code) i (fits .in-codes))));
+  rising = every Rising (λ p t k. instance-rising n z (node .operands) (fits .earlier) (omega arith) p t k);
+  own = every (λ c. (l : ℕ) → Member l c → signal l ≤ z) (λ p t _. instance-within n z (node .operands) (fits .earlier) above p t);
+  short = every (λ c. length c ≤ 18) (λ p t _. omega (arith, instance-length z (node .operands) p, short-pattern (length (node .operands)) p t, few));
 }
   where
     these : node-patterns K node ≡ K .patterns (node .code)
@@ -71,3 +64,9 @@ gate-law K lawful sized n z node fits above = record {
 
     formed : T (all-well-formed (length (node .operands)) (K .patterns (node .code)))
     formed = subst (λ (k : ℕ). T (all-well-formed k (K .patterns (node .code)))) (sym (fits .full)) (sized .well-formed-patterns (node .code) (fits .in-codes))
+
+    few : length (node .operands) ≤ 8
+    few = omega (arith, fits .full, sized .few-operands (node .code) (fits .in-codes))
+
+    every : (P : List ℕ → Type 0) → ((p : List SlotLiteral) → T (well-formed (length (node .operands)) p) → T (not (both-ways (instance z (node .operands) p))) → P (instance z (node .operands) p)) → All P (clauses-of K z node)
+    every P f = subst (λ (ps : List (List SlotLiteral)). All P (kept z (node .operands) ps)) (sym these) (kept-all P z (node .operands) f (K .patterns (node .code)) formed)

@@ -10,7 +10,7 @@ use lib.ListN.{length, getD}
 use Rattle.std.specs.shelf.Lists.{All}
 use Rattle.std.proofs.shelf.Lists.{length-map}
 use Rattle.clauses.specs.Literals.{signal, literal-of, flip}
-use Rattle.clauses.specs.Clauses.{member, Rising-above, Rising}
+use Rattle.clauses.specs.Clauses.{Member, member, Rising-above, Rising}
 use Rattle.gates.specs.declared.kinds.Slot.{Slot}
 use Rattle.gates.specs.declared.kinds.Slot.the-variants.{Operand, Output}
 use Rattle.gates.specs.declared.kinds.SlotLiteral.{SlotLiteral}
@@ -91,3 +91,35 @@ module _ (n z : ℕ) (operands : List ℕ) (earlier : Earlier n operands) (own :
 
 pub instance-length : (z : ℕ) (operands : List ℕ) (p : List SlotLiteral) → length (instance z operands p) ≤ length p
 instance-length z operands p = omega (arith, length-insert-all (map (put-in z operands) p) [], length-map p (put-in z operands))
+
+-- the literals of an instance are those put in
+insert-member : (l c : ℕ) (xs : List ℕ) → Member l (insert c xs) → (l ≡ c) ⊎ Member l xs
+insert-member l c [] m = m
+insert-member l c (x ∷ xs) m = let ih : Member l (insert c xs) → (l ≡ c) ⊎ Member l xs = insert-member l c xs in grind (arith, ih)
+
+insert-all-within : (z : ℕ) (ls cs : List ℕ) → All (λ l. signal l ≤ z) ls → ((l : ℕ) → Member l cs → signal l ≤ z) → (l : ℕ) → Member l (insert-all ls cs) → signal l ≤ z
+insert-all-within z [] cs a b l m = b l m
+insert-all-within z (c ∷ ls) cs a b l m = insert-all-within z ls (insert c cs) (a .1) (λ k n. here k (insert-member k c cs n)) l m
+  where
+    here : (k : ℕ) → (k ≡ c) ⊎ Member k cs → signal k ≤ z
+    here k (inl e) = subst (λ (j : ℕ). signal j ≤ z) (sym e) (a .0)
+    here k (inr n) = b k n
+
+module _ (n z : ℕ) (operands : List ℕ) (earlier : Earlier n operands) (own : n < z) where
+  signal-within : (s : Slot) → T (in-place (length operands) s) → slot-signal z operands s ≤ z
+  signal-within (Operand i) t = let e : getD operands i 0 ≤ n = earlier i (ltb→lt i (length operands) t) .1 in omega arith
+  signal-within Output t = omega arith
+
+  code-signal : (s : ℕ) (b : Bool) → s ≤ z → signal (literal-of s b) ≤ z
+  code-signal s true h = omega arith
+  code-signal s false h = omega arith
+
+  codes-within : (p : List SlotLiteral) → T (well-formed (length operands) p) → All (λ l. signal l ≤ z) (map (put-in z operands) p)
+  codes-within [] t = tt
+  codes-within (l ∷ p) t = (
+    code-signal (slot-signal z operands (l .slot)) (l .negated) (signal-within (l .slot) (and-left _ _ t)),
+    codes-within p (and-right (not (stands-in l p)) _ (and-right (in-place (length operands) (l .slot)) _ t)),
+  )
+
+  pub instance-within : (p : List SlotLiteral) → T (well-formed (length operands) p) → (l : ℕ) → Member l (instance z operands p) → signal l ≤ z
+  instance-within p t = insert-all-within z (map (put-in z operands) p) [] (codes-within p t) (λ l m. absurd m)

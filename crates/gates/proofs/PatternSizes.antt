@@ -70,8 +70,8 @@ numbers-below k (l ∷ p) t x (inl e) =
 numbers-below k (l ∷ p) t x (inr h) =
     numbers-below k p (and-right (not (stands-in l p)) _ (and-right (in-place k (l .slot)) _ t)) x h
 
-short : (k : ℕ) (p : List SlotLiteral) → T (well-formed k p) → length p ≤ 2 * (k + 1)
-short k p t = rw (length-map p number) at (few-distinct (2 * (k + 1)) (map number p) (distinct-numbers k p t) (numbers-below k p t))
+pub short-pattern : (k : ℕ) (p : List SlotLiteral) → T (well-formed k p) → length p ≤ 2 * (k + 1)
+short-pattern k p t = rw (length-map p number) at (few-distinct (2 * (k + 1)) (map number p) (distinct-numbers k p t) (numbers-below k p t))
 
 -- every pattern of a list that is well-formed
 well-formed-at : (k : ℕ) (ps : List (List SlotLiteral)) (i : ℕ) → T (all-well-formed k ps) → T (well-formed k (getD ps i []))
@@ -83,7 +83,7 @@ well-formed-at k (p ∷ ps) (suc i) t = well-formed-at k ps i (and-right (well-f
 pub pattern-short : (K : Kind) → Sized K → (c i : ℕ) → c < K .codes → length (getD (K .patterns c) i []) ≤ 18
 pattern-short K s c i h =
     let few : K .arity c ≤ 8 = s .few-operands c h in
-    omega (arith, short (K .arity c) (getD (K .patterns c) i []) (well-formed-at (K .arity c) (K .patterns c) i (s .well-formed-patterns c h)))
+    omega (arith, short-pattern (K .arity c) (getD (K .patterns c) i []) (well-formed-at (K .arity c) (K .patterns c) i (s .well-formed-patterns c h)))
 
 -- each literal of a well-formed pattern is over its operands and its output
 in-place-at : (k : ℕ) (p : List SlotLiteral) (j : ℕ) → T (well-formed k p) → j < length p → T (in-place k (getD p j past-end .slot))

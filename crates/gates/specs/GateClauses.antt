@@ -9,8 +9,8 @@ use lib.ListN.{length, getD}
 use Rattle.std.specs.declared.option.Option.{Option}
 use Rattle.std.specs.declared.option.Option.the-variants.{Some, None}
 use Rattle.std.specs.shelf.Lists.{All, kept-by}
-use Rattle.clauses.specs.Literals.{literal-of, flip}
-use Rattle.clauses.specs.Clauses.{all-hold, member, Rising}
+use Rattle.clauses.specs.Literals.{signal, literal-of, flip}
+use Rattle.clauses.specs.Clauses.{all-hold, Member, member, Rising}
 use Rattle.gates.specs.declared.kinds.Slot.{Slot}
 use Rattle.gates.specs.declared.kinds.Slot.the-variants.{Operand, Output}
 use Rattle.gates.specs.declared.kinds.SlotLiteral.{SlotLiteral}
@@ -69,8 +69,9 @@ kept-length c = cond (both-ways c) None (Some (length c))
 pub record Clauses-law (K : Kind) (z : ℕ) (node : Node) : Type 0 where
   -- they hold exactly if its signal has the operator's value on its operands
   pub exact : (v : ℕ → Bool) → T (all-hold v (clauses-of K z node)) ↔ (v z ≡ K .truth (node .code) (map v (node .operands)))
-  -- each is rising, and has at most 18 literals
+  -- each is rising, is about no signal past its own, and has at most 18 literals
   pub rising : All Rising (clauses-of K z node)
+  pub own : All (λ c. (l : ℕ) → Member l c → signal l ≤ z) (clauses-of K z node)
   pub short : All (λ c. length c ≤ 18) (clauses-of K z node)
 
 abbrev pub Gate-law : Kind → Type 0

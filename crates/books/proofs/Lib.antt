@@ -1,0 +1,10 @@
+pub mod BookLaws
+pub mod BookAnswers
+pub mod ChainedBooks
+pub mod ChainedHeads
+pub mod ChainedLinks
+pub mod ChainedMoves
+pub mod ClauseReading
+pub mod PackedBooks
+pub mod PackedLayout
+pub mod PackedSpans

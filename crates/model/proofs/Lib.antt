@@ -1,0 +1,11 @@
+pub mod Values
+pub mod Exactness
+pub mod Refuting
+pub mod Written
+pub mod Shapes
+pub mod Granting
+pub mod Soundness
+pub mod Showing
+pub mod Completeness
+pub mod LawOfRuns
+pub mod PlanCalls

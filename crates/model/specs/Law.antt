@@ -1,0 +1,87 @@
+-- The law of every run: exact, sound and complete.
+use mathlib.Core.Path.{_≡_}
+use mathlib.Core.Bool.{Bool, true}
+use mathlib.Core.List.{List, [], _∷_, _++_, map}
+use mathlib.Core.Logic.{_↔_}
+use Prim.Native.Nat.{ℕ, _+_, _*_, _^_, _≤_}
+use lib.Dec.{T}
+use lib.ListN.{length}
+use Rattle.std.specs.Results.{isOk}
+use Rattle.std.specs.declared.option.Option.the-variants.{Some}
+use Rattle.std.specs.declared.result.Result.the-variants.{Ok}
+use Rattle.clauses.specs.Clauses.{holds, all-hold}
+use Rattle.gates.specs.Kinds.{Kind}
+use Rattle.gates.specs.Nodes.{value-at, values-of}
+use Rattle.books.specs.Book.{Book, clause-at, free-numbers, free-cells}
+use Rattle.model.specs.declared.standing.Standing.{Standing}
+use Rattle.model.specs.declared.standing.Standing.the-variants.{CannotRun, Runs}
+use Rattle.model.specs.Plans.{Plan, node, Well-made, signals, complete, begin-answer, begun, gate-answer, with-gate, root-answer, with-root, plan-values, true-under, plan-clauses}
+use Rattle.model.specs.Settings.{setting-of, count-on}
+use Rattle.model.specs.Dockets.{Docket, open-answer, opened}
+use Rattle.model.specs.Calls.{Call, Resolve, Settle, Show, answer, run}
+
+-- begin, gate and root make plans whose gates are over earlier signals and whose root is a signal
+pub record Plan-calls (K : Kind) : Type 0 where
+  pub begins : (n : ℕ) → begin-answer n ≡ Ok tt → Well-made K (begun n)
+  pub adds-gate : (p : Plan) → Well-made K p → (code : ℕ) (operands : List ℕ) (s : ℕ) → gate-answer K p code operands ≡ Ok s → Well-made K (with-gate p (node code operands)) × (s ≡ signals (with-gate p (node code operands)))
+  pub sets-root : (p : Plan) → Well-made K p → (s : ℕ) → root-answer p s ≡ Ok tt → Well-made K (with-root p s) × T (complete (with-root p s))
+
+-- a setting of n switches
+abbrev pub Setting-of : ℕ → List Bool → Type 0
+Setting-of n setting = length setting ≡ n
+
+-- no setting makes the plan true
+abbrev pub Cannot-run : Kind → Plan → Type 0
+Cannot-run K p = (setting : List Bool) → Setting-of (p .switches) setting → T (true-under K p setting) → ⊥
+
+-- a setting makes the plan true exactly if some choice of gate values makes its clauses hold, and no other choice does
+pub record Exact (K : Kind) (p : Plan) (setting : List Bool) : Type 0 where
+  pub some-choice : T (true-under K p setting) ↔ ((chosen : List Bool) × (length chosen ≡ length (p .gates)) × T (all-hold (value-at (setting ++ chosen)) (plan-clauses K p)))
+  pub no-other : (chosen : List Bool) → length chosen ≡ length (p .gates) → T (all-hold (value-at (setting ++ chosen)) (plan-clauses K p)) → setting ++ chosen ≡ plan-values K p setting
+
+-- the values of all signals of a docket under a setting: switches, gates, definitions
+abbrev pub docket-values : Kind → Docket → List Bool → List Bool
+docket-values K d setting = values-of K (d .definitions) (plan-values K (d .plan) setting)
+
+-- the setting that a granted show gave, among calls on a docket
+pub record Shown (K : Kind) (d : Docket) (calls : List Call) (k : ℕ) : Type 0 where
+  pub before : List Call
+  pub bytes : List ℕ
+  pub after : List Call
+  pub made : calls ≡ before ++ (Show bytes ∷ after)
+  pub granted-as : answer K (run K d before) (Show bytes) ≡ Ok k
+  pub true-there : T (true-under K (d .plan) (setting-of (d .plan .switches) bytes))
+  pub as-many-on : count-on (setting-of (d .plan .switches) bytes) ≡ k
+
+-- after any calls on a docket
+pub record Sound (K : Kind) (d : Docket) (calls : List Call) : Type 0 where
+  pub standing-hold : (setting : List Bool) → Setting-of (d .plan .switches) setting → T (true-under K (d .plan) setting) → (k : ℕ) (c : List ℕ) → clause-at (run K d calls .book) k ≡ Some c → T (holds (value-at (docket-values K (run K d calls) setting)) c)
+  pub cannot-run : run K d calls .standing ≡ CannotRun → Cannot-run K (d .plan)
+  pub runs : (k : ℕ) → run K d calls .standing ≡ Runs k → Shown K d calls k
+
+-- every call is granted when its turn comes
+abbrev pub All-granted : Kind → Docket → List Call → Type 0
+All-granted K d [] = Unit {0}
+All-granted K d (c ∷ cs) = (isOk (answer K d c) ≡ true) × All-granted K (run K d (c ∷ [])) cs
+
+abbrev pub resolve-of : ℕ × ℕ → Call
+resolve-of pair = Resolve (pair .0) (pair .1)
+
+-- a list of resolves and, last, one settle that make the docket stand at 'cannot run'
+pub record Refutation (K : Kind) (d : Docket) (most : ℕ) : Type 0 where
+  pub pairs : List (ℕ × ℕ)
+  pub number : ℕ
+  pub few : length pairs ≤ most
+  pub granted-all : All-granted K d (map resolve-of pairs ++ (Settle number ∷ []))
+  pub ends : run K d (map resolve-of pairs ++ (Settle number ∷ [])) .standing ≡ CannotRun
+
+-- enough free numbers and cells for every refutation over v signals
+abbrev pub Room-for : ℕ → Docket → Type 0
+Room-for v d = (2 ^ v ≤ free-numbers (d .book)) × (v * 2 ^ v ≤ free-cells (d .book))
+
+-- for every plan that the calls make, every book, and every list of calls
+pub record Law-of-every-run (K : Kind) : Type 0 where
+  pub plans : Plan-calls K
+  pub exact : (p : Plan) → Well-made K p → T (complete p) → (setting : List Bool) → Setting-of (p .switches) setting → Exact K p setting
+  pub sound : (p : Plan) → Well-made K p → (b : Book) → open-answer K p b ≡ Ok tt → (calls : List Call) → Sound K (opened K p b) calls
+  pub complete-for-small : (p : Plan) → Well-made K p → (b : Book) → open-answer K p b ≡ Ok tt → signals p ≤ 20 → Room-for (signals p) (opened K p b) → Cannot-run K p → Refutation K (opened K p b) (2 ^ signals p)

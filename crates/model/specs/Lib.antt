@@ -1,0 +1,7 @@
+pub mod Standings
+pub mod Refusing
+pub mod Plans
+pub mod Settings
+pub mod Dockets
+pub mod Calls
+pub mod Law
