@@ -26,6 +26,7 @@ use Rattle.books.specs.Chained.{cells-of, cell-at, chain, ends, literals-in, c
 use Rattle.books.proofs.BookLaws.{clause-at-zero, clause-at-suc}
 use Rattle.books.proofs.ChainedLinks.{chain-at}
 use Rattle.books.proofs.ChainedHeads.{getD-map-any, front-within, slot-row, cells-shared, Apart, apart, Left, writing, striking}
+use Rattle.books.proofs.BookAnswers.{ok-some, err-none}
 
 -- what stands under a number is what its chain holds
 clause-held : (cs : List Cell) (hs : List (Option ℕ)) (t k : ℕ) → clause-at (chained cs hs t) k ≡ mapped (literals-in cs) (head-at hs k)
@@ -35,15 +36,6 @@ clause-held cs hs t k = ap (λ o. cond (eqb k 0) None o) (getD-map-any (mapped (
     inside : (b : Bool) (o : Option ℕ) → cond b None (mapped (literals-in cs) o) ≡ mapped (literals-in cs) (cond b None o)
     inside true o = refl
     inside false o = refl
-
--- the answer of a look-up, read back
-ok-some : {X : Type 0} (o : Option X) (x : X) → _≡_ {A = Result X Refusal} (Ok x) (okOr o NoClause) → o ≡ Some x
-ok-some None x e = let z : _≡_ {A = ℕ} 0 1 = cc in absurd (omega arith)
-ok-some (Some y) x e = cc
-
-err-none : {X : Type 0} (o : Option X) (r : Refusal) → _≡_ {A = Result X Refusal} (Err r) (okOr o NoClause) → (o ≡ None) × (r ≡ NoClause)
-err-none None r e = (refl, (cc))
-err-none (Some y) r e = let z : _≡_ {A = ℕ} 0 1 = cc in absurd (omega arith)
 
 module _ (b : ChainedBook) where
   abbrev pub meaning-of : Book

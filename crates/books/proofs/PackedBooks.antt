@@ -23,6 +23,7 @@ use Rattle.books.specs.Packed.{covered, packed, span-at, span-of, Lays, withou
 use Rattle.books.proofs.BookLaws.{clause-at-zero, clause-at-suc}
 use Rattle.books.proofs.PackedLayout.{length-end-to-end, slots-laid}
 use Rattle.books.proofs.PackedSpans.{slot-covered, Placed, placed, written-lays, struck-lays}
+use Rattle.books.proofs.BookAnswers.{ok-some, err-none}
 
 -- what stands under a number is what its span covers
 clause-covered : (ls : List ℕ) (ss : List (Option Span)) (t l k : ℕ) → clause-at (packed ls ss t l) k ≡ mapped (covered ls) (span-at ss k)
@@ -32,15 +33,6 @@ clause-covered ls ss t l k = ap (λ o. cond (eqb k 0) None o) (slot-covered ls s
     inside : (b : Bool) (o : Option Span) → cond b None (mapped (covered ls) o) ≡ mapped (covered ls) (cond b None o)
     inside true o = refl
     inside false o = refl
-
--- the answer of a look-up, read back
-ok-some : {X : Type 0} (o : Option X) (x : X) → _≡_ {A = Result X Refusal} (Ok x) (okOr o NoClause) → o ≡ Some x
-ok-some None x e = let z : _≡_ {A = ℕ} 0 1 = cc in absurd (omega arith)
-ok-some (Some y) x e = cc
-
-err-none : {X : Type 0} (o : Option X) (r : Refusal) → _≡_ {A = Result X Refusal} (Err r) (okOr o NoClause) → (o ≡ None) × (r ≡ NoClause)
-err-none None r e = (refl, (cc))
-err-none (Some y) r e = let z : _≡_ {A = ℕ} 0 1 = cc in absurd (omega arith)
 
 module _ (b : PackedBook) where
   abbrev pub meaning-of : Book

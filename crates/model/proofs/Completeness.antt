@@ -1,11 +1,11 @@
 -- A plan that no setting makes true has a refutation on a docket just opened, where the book has room for it.
 use mathlib.Core.Path.{_≡_, refl, sym, ap, ap₂, subst, _∙_}
-use mathlib.Core.Bool.{Bool, true, false, not, cond, _||_}
+use mathlib.Core.Bool.{Bool, true, false, cond}
 use mathlib.Core.List.{List, [], _∷_, _++_, map}
 use mathlib.Core.Logic.{_⊎_, inl, inr}
 use Prim.Native.Nat.{ℕ, zero, suc, _+_, _*_, _^_, _<_, _≤_}
 use native.Mathlib.Omega.{arith}
-use lib.Dec.{T, eqb, ltb}
+use lib.Dec.{T}
 use lib.ListN.{length, getD, take, drop}
 use Rattle.std.specs.Iters.{counting}
 use Rattle.std.specs.Results.{isOk}
@@ -15,10 +15,9 @@ use Rattle.std.specs.declared.result.Result.{Result}
 use Rattle.std.specs.declared.result.Result.the-variants.{Ok, Err}
 use Rattle.std.proofs.shelf.Lists.{take-append-drop, length-take-le, length-drop}
 use Rattle.std.proofs.shelf.Counted.{length-map-counting, getD-map-counting}
-use Rattle.std.proofs.shelf.Tests.{le-ltb, ne-eqb, or-from, cond-false, not-false}
+use Rattle.std.proofs.shelf.Tests.{not-false}
 use Rattle.clauses.specs.declared.refusals.Refusal.{Refusal}
-use Rattle.clauses.specs.declared.refusals.Refusal.the-variants.{NoClause, LongClause, BookFull, Closed}
-use Rattle.clauses.specs.Limits.{max-literals}
+use Rattle.clauses.specs.declared.refusals.Refusal.the-variants.{Closed}
 use Rattle.clauses.specs.Literals.{signal, literal-value}
 use Rattle.clauses.specs.Clauses.{holds, all-hold, Member, Rising}
 use Rattle.clauses.specs.Joining.{clashes, merged, only}
@@ -28,7 +27,8 @@ use Rattle.gates.specs.Kinds.{Kind}
 use Rattle.gates.specs.Nodes.{value-at}
 use Rattle.gates.specs.GateClauses.{Gate-law}
 use Rattle.books.specs.Book.{Book, given, clause-at, free-numbers, free-cells, written}
-use Rattle.books.specs.Promise.{granted, full, write-answer}
+use Rattle.books.specs.Promise.{granted}
+use Rattle.books.proofs.BookAnswers.{write-granted}
 use Rattle.books.proofs.BookLaws.{written-stands, written-free-numbers, written-free-cells}
 use Rattle.model.specs.declared.standing.Standing.the-variants.{Open, CannotRun}
 use Rattle.model.specs.Standings.{closed}
@@ -42,12 +42,6 @@ use Rattle.model.proofs.Shapes.{plan-shaped}
 use Rattle.model.proofs.Granting.{none-hold}
 use Rattle.model.proofs.Refuting.{full as full-tree, full-power, Resolves, Keeps, Found, refutation}
 use Rattle.model.proofs.Soundness.{literal-alike}
-
--- writing is granted where there is room
-write-granted : (b : Book) (c : List ℕ) → length c ≤ 64 → 1 ≤ free-numbers b → length c ≤ free-cells b → write-answer b c ≡ Ok (given b + 1)
-write-granted b c short number cells =
-    cond-false (ltb max-literals (length c)) _ _ (le-ltb max-literals (length c) short)
-    ∙ cond-false (full b c) _ _ (or-from (eqb (free-numbers b) 0) (ltb (free-cells b) (length c)) (ne-eqb (free-numbers b) 0 (λ e. omega arith)) (le-ltb (free-cells b) (length c) cells))
 
 -- the clause xs stands under the number i
 abbrev Stands : Docket → ℕ → List ℕ → Type 0

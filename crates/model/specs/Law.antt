@@ -8,17 +8,19 @@ use lib.Dec.{T}
 use lib.ListN.{length}
 use Rattle.std.specs.Results.{isOk}
 use Rattle.std.specs.declared.option.Option.the-variants.{Some}
-use Rattle.std.specs.declared.result.Result.the-variants.{Ok}
+use Rattle.std.specs.declared.result.Result.the-variants.{Ok, Err}
+use Rattle.clauses.specs.declared.refusals.Refusal.the-variants.{Closed}
 use Rattle.clauses.specs.Clauses.{holds, all-hold}
 use Rattle.gates.specs.Kinds.{Kind}
 use Rattle.gates.specs.Nodes.{value-at, values-of}
 use Rattle.books.specs.Book.{Book, clause-at, free-numbers, free-cells}
 use Rattle.model.specs.declared.standing.Standing.{Standing}
 use Rattle.model.specs.declared.standing.Standing.the-variants.{CannotRun, Runs}
+use Rattle.model.specs.Standings.{closed}
 use Rattle.model.specs.Plans.{Plan, node, Well-made, signals, complete, begin-answer, begun, gate-answer, with-gate, root-answer, with-root, plan-values, true-under, plan-clauses}
 use Rattle.model.specs.Settings.{setting-of, count-on}
 use Rattle.model.specs.Dockets.{Docket, open-answer, opened}
-use Rattle.model.specs.Calls.{Call, Resolve, Settle, Show, answer, run}
+use Rattle.model.specs.Calls.{Call, Resolve, Settle, Show, answer, step, run}
 
 -- begin, gate and root make plans whose gates are over earlier signals and whose root is a signal
 pub record Plan-calls (K : Kind) : Type 0 where
@@ -59,6 +61,11 @@ pub record Sound (K : Kind) (d : Docket) (calls : List Call) : Type 0 where
   pub cannot-run : run K d calls .standing ≡ CannotRun → Cannot-run K (d .plan)
   pub runs : (k : ℕ) → run K d calls .standing ≡ Runs k → Shown K d calls k
 
+-- a docket that is not open refuses every call, and stays as it is
+pub record Final (K : Kind) (d : Docket) (c : Call) : Type 0 where
+  pub refuses : answer K d c ≡ Err Closed
+  pub stays : step K d c ≡ d
+
 -- every call is granted when its turn comes
 abbrev pub All-granted : Kind → Docket → List Call → Type 0
 All-granted K d [] = Unit {0}
@@ -84,4 +91,5 @@ pub record Law-of-every-run (K : Kind) : Type 0 where
   pub plans : Plan-calls K
   pub exact : (p : Plan) → Well-made K p → T (complete p) → (setting : List Bool) → Setting-of (p .switches) setting → Exact K p setting
   pub sound : (p : Plan) → Well-made K p → (b : Book) → open-answer K p b ≡ Ok tt → (calls : List Call) → Sound K (opened K p b) calls
+  pub final : (d : Docket) → closed (d .standing) ≡ true → (c : Call) → Final K d c
   pub complete-for-small : (p : Plan) → Well-made K p → (b : Book) → open-answer K p b ≡ Ok tt → signals p ≤ 20 → Room-for (signals p) (opened K p b) → Cannot-run K p → Refutation K (opened K p b) (2 ^ signals p)
