@@ -28,6 +28,7 @@ use Rattle.model.proofs.Exactness.{plan-exact}
 use Rattle.model.proofs.Soundness.{Right, run-right, open-right}
 use Rattle.model.proofs.Showing.{run-plan, runs-shown}
 use Rattle.model.proofs.Completeness.{refutable}
+use Rattle.model.proofs.Opening.{opens}
 use Rattle.model.proofs.PlanCalls.{plan-calls}
 
 module _ (K : Kind) (law : Gate-law K) where
@@ -62,6 +63,7 @@ pub law-of-every-run : (K : Kind) → Lawful K → kinds.Sized K → Law-of-ever
 law-of-every-run K lawful sized = record {
   plans = plan-calls K;
   exact = plan-exact K (gate-law K lawful sized);
+  opens = opens K;
   sound = run-sound K (gate-law K lawful sized);
   final = closed-final K;
   complete-for-small = λ p made b e small room unsat. refutable K (gate-law K lawful sized) p made b e small room unsat;

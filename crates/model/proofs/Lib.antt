@@ -9,3 +9,4 @@ pub mod Showing
 pub mod Completeness
 pub mod LawOfRuns
 pub mod PlanCalls
+pub mod Opening

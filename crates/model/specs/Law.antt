@@ -3,9 +3,9 @@ use mathlib.Core.Path.{_≡_}
 use mathlib.Core.Bool.{Bool, true}
 use mathlib.Core.List.{List, [], _∷_, _++_, map}
 use mathlib.Core.Logic.{_↔_}
-use Prim.Native.Nat.{ℕ, _+_, _*_, _^_, _≤_}
+use Prim.Native.Nat.{ℕ, _+_, _*_, _^_, _<_, _≤_}
 use lib.Dec.{T}
-use lib.ListN.{length}
+use lib.ListN.{length, getD}
 use Rattle.std.specs.Results.{isOk}
 use Rattle.std.specs.declared.option.Option.the-variants.{Some}
 use Rattle.std.specs.declared.result.Result.the-variants.{Ok, Err}
@@ -13,13 +13,13 @@ use Rattle.clauses.specs.declared.refusals.Refusal.the-variants.{Closed}
 use Rattle.clauses.specs.Clauses.{holds, all-hold}
 use Rattle.gates.specs.Kinds.{Kind}
 use Rattle.gates.specs.Nodes.{value-at, values-of}
-use Rattle.books.specs.Book.{Book, clause-at, free-numbers, free-cells}
+use Rattle.books.specs.Book.{Book, given, clause-at, free-numbers, free-cells}
 use Rattle.model.specs.declared.standing.Standing.{Standing}
 use Rattle.model.specs.declared.standing.Standing.the-variants.{CannotRun, Runs}
 use Rattle.model.specs.Standings.{closed}
 use Rattle.model.specs.Plans.{Plan, node, Well-made, signals, complete, begin-answer, begun, gate-answer, with-gate, root-answer, with-root, plan-values, true-under, plan-clauses}
 use Rattle.model.specs.Settings.{setting-of, count-on}
-use Rattle.model.specs.Dockets.{Docket, open-answer, opened}
+use Rattle.model.specs.Dockets.{Docket, literal-count, open-answer, opened}
 use Rattle.model.specs.Calls.{Call, Resolve, Settle, Show, answer, step, run}
 
 -- begin, gate and root make plans whose gates are over earlier signals and whose root is a signal
@@ -40,6 +40,12 @@ Cannot-run K p = (setting : List Bool) → Setting-of (p .switches) setting → 
 pub record Exact (K : Kind) (p : Plan) (setting : List Bool) : Type 0 where
   pub some-choice : T (true-under K p setting) ↔ ((chosen : List Bool) × (length chosen ≡ length (p .gates)) × T (all-hold (value-at (setting ++ chosen)) (plan-clauses K p)))
   pub no-other : (chosen : List Bool) → length chosen ≡ length (p .gates) → T (all-hold (value-at (setting ++ chosen)) (plan-clauses K p)) → setting ++ chosen ≡ plan-values K p setting
+
+-- open is granted exactly to a complete plan and an empty book that has room for the plan's clauses, and they then stand under 1, 2, .. in order
+pub record Opens (K : Kind) (p : Plan) (b : Book) : Type 0 where
+  pub granted-if : T (complete p) → given b ≡ 0 → length (plan-clauses K p) ≤ free-numbers b → literal-count (plan-clauses K p) ≤ free-cells b → open-answer K p b ≡ Ok tt
+  pub only-if : open-answer K p b ≡ Ok tt → T (complete p) × (given b ≡ 0) × (length (plan-clauses K p) ≤ free-numbers b) × (literal-count (plan-clauses K p) ≤ free-cells b)
+  pub in-order : open-answer K p b ≡ Ok tt → (k : ℕ) → k < length (plan-clauses K p) → clause-at (opened K p b .book) (k + 1) ≡ Some (getD (plan-clauses K p) k [])
 
 -- the values of all signals of a docket under a setting: switches, gates, definitions
 abbrev pub docket-values : Kind → Docket → List Bool → List Bool
@@ -90,6 +96,7 @@ Room-for v d = (2 ^ v ≤ free-numbers (d .book)) × (v * 2 ^ v ≤ free-cells (
 pub record Law-of-every-run (K : Kind) : Type 0 where
   pub plans : Plan-calls K
   pub exact : (p : Plan) → Well-made K p → T (complete p) → (setting : List Bool) → Setting-of (p .switches) setting → Exact K p setting
+  pub opens : (p : Plan) (b : Book) → Opens K p b
   pub sound : (p : Plan) → Well-made K p → (b : Book) → open-answer K p b ≡ Ok tt → (calls : List Call) → Sound K (opened K p b) calls
   pub final : (d : Docket) → closed (d .standing) ≡ true → (c : Call) → Final K d c
   pub complete-for-small : (p : Plan) → Well-made K p → (b : Book) → open-answer K p b ≡ Ok tt → signals p ≤ 20 → Room-for (signals p) (opened K p b) → Cannot-run K p → Refutation K (opened K p b) (2 ^ signals p)
