@@ -1,8 +1,8 @@
 -- The law of a gate's clauses, from the law of its kind.
 use mathlib.Core.Path.{_≡_, refl, sym, ap, ap₂, subst, _∙_}
-use mathlib.Core.Bool.{Bool, true, false, not, cond, _&&_, _||_}
+use mathlib.Core.Bool.{Bool, true, false, not, cond, _&&_}
 use mathlib.Core.List.{List, [], _∷_, map}
-use Prim.Native.Nat.{ℕ, _<_, _≤_}
+use Prim.Native.Nat.{ℕ, _≤_}
 use native.Mathlib.Omega.{arith}
 use lib.Dec.{T}
 use lib.ListN.{length}
@@ -12,7 +12,6 @@ use Rattle.clauses.specs.Literals.{signal}
 use Rattle.clauses.specs.Clauses.{holds, all-hold, Member, Rising}
 use Rattle.gates.specs.declared.kinds.SlotLiteral.{SlotLiteral}
 use Rattle.gates.specs.Kinds.{Kind, Lawful, Sized, pattern-holds, patterns-hold, well-formed, all-well-formed}
-use Rattle.gates.specs.Nodes.{Node, Fits}
 use Rattle.gates.specs.GateClauses.{instance, both-ways, node-patterns, clauses-of, Gate-law}
 use Rattle.gates.proofs.Computed.{and-left, and-right}
 use Rattle.gates.proofs.InstanceLaw.{holds-instance, both-ways-holds}

@@ -2,11 +2,11 @@
 use mathlib.Core.Path.{_≡_, refl, sym, ap, ap₂, _∙_}
 use mathlib.Core.Bool.{Bool, true, false, not, cond, _||_}
 use mathlib.Core.List.{List, [], _∷_, map}
-use mathlib.Core.Logic.{_⊎_, inl, inr}
-use Prim.Native.Nat.{ℕ, _<_}
+use mathlib.Core.Logic.{inl, inr}
+use Prim.Native.Nat.{ℕ}
 use native.Mathlib.Omega.{arith}
-use lib.Dec.{T, eqb, ltb, ltb→lt}
-use lib.ListN.{length, getD}
+use lib.Dec.{T, ltb, ltb→lt}
+use lib.ListN.{length}
 use Rattle.std.proofs.shelf.Lists.{getD-map}
 use Rattle.clauses.specs.Literals.{literal-of, flip, literal-value}
 use Rattle.clauses.specs.Clauses.{holds, Member, member}

@@ -1,8 +1,7 @@
 -- The laws of the two kinds, each by a test over the whole table.
-use Prim.Native.Nat.{ℕ, _<_, _≤_}
-use native.Mathlib.Omega.{arith}
+use Prim.Native.Nat.{ℕ, _<_}
 use mathlib.Core.Bool.{Bool, _&&_}
-use lib.Dec.{T, leb, leb→le, lit≤}
+use lib.Dec.{T, leb, leb→le}
 use lib.ListN.{length}
 use Rattle.gates.specs.Kinds.{Kind, Lawful, Sized, all-well-formed}
 use Rattle.gates.specs.TwoInput.{two-input}

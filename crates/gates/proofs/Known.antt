@@ -1,13 +1,12 @@
 -- What it says of a node that the kind knows it.
 use mathlib.Core.Path.{_≡_, refl, ap}
-use mathlib.Core.Bool.{Bool, true, false, cond, _&&_}
-use mathlib.Core.List.{List, []}
+use mathlib.Core.Bool.{Bool, true, false, cond}
+use mathlib.Core.List.{[]}
 use Prim.Native.Nat.{ℕ, _<_}
 use native.Mathlib.Omega.{arith}
 use lib.Dec.{eqb, ltb}
 use lib.ListN.{length, getD}
 use Rattle.std.proofs.shelf.Tests.{ltb-true, eqb-true, lt-ltb, eq-eqb, and-parts, and-from, cond-true}
-use Rattle.gates.specs.declared.kinds.SlotLiteral.{SlotLiteral}
 use Rattle.gates.specs.Kinds.{Kind}
 use Rattle.gates.specs.Nodes.{Node, known, Fits}
 use Rattle.gates.specs.GateClauses.{node-patterns}

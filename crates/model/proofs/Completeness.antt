@@ -2,15 +2,13 @@
 use mathlib.Core.Path.{_≡_, refl, sym, ap, ap₂, subst, _∙_}
 use mathlib.Core.Bool.{Bool, true, false, cond}
 use mathlib.Core.List.{List, [], _∷_, _++_, map}
-use mathlib.Core.Logic.{_⊎_, inl, inr}
-use Prim.Native.Nat.{ℕ, zero, suc, _+_, _*_, _^_, _<_, _≤_}
+use Prim.Native.Nat.{ℕ, zero, suc, _+_, _*_, _^_, _≤_}
 use native.Mathlib.Omega.{arith}
 use lib.Dec.{T}
-use lib.ListN.{length, getD, take, drop}
+use lib.ListN.{length, take, drop}
 use Rattle.std.specs.Iters.{counting}
 use Rattle.std.specs.Results.{isOk}
-use Rattle.std.specs.declared.option.Option.{Option}
-use Rattle.std.specs.declared.option.Option.the-variants.{Some, None}
+use Rattle.std.specs.declared.option.Option.the-variants.{Some}
 use Rattle.std.specs.declared.result.Result.{Result}
 use Rattle.std.specs.declared.result.Result.the-variants.{Ok, Err}
 use Rattle.std.proofs.shelf.Lists.{take-append-drop, length-take-le, length-drop}
@@ -35,11 +33,12 @@ use Rattle.model.specs.Standings.{closed}
 use Rattle.model.specs.Plans.{Plan, Well-made, signals, complete, plan-clauses}
 use Rattle.model.specs.Dockets.{Docket, open-reasons, open-answer, opened}
 use Rattle.model.specs.Calls.{Call, Resolve, Settle, answer, step, run, with-book, with-standing, resolvent-of, resolvent, write-resolvent, resolve-answer, with-resolvent, settle-found, settle-answer}
-use Rattle.model.specs.Law.{Cannot-run, All-granted, resolve-of, Refutation, Room-for}
+use Rattle.model.specs.PlanLaw.{Cannot-run}
+use Rattle.model.specs.Law.{All-granted, resolve-of, Refutation, Room-for}
 use Rattle.model.proofs.Exactness.{plan-exact}
-use Rattle.model.proofs.Written.{In, fails-in, written-keeps, all-written-has}
+use Rattle.model.proofs.Written.{fails-in, written-keeps, all-written-has}
 use Rattle.model.proofs.Shapes.{plan-shaped}
-use Rattle.model.proofs.Granting.{none-hold}
+use Rattle.model.proofs.Reasons.{none-hold}
 use Rattle.model.proofs.Refuting.{full as full-tree, full-power, Resolves, Keeps, Found, refutation}
 use Rattle.model.proofs.Soundness.{literal-alike}
 

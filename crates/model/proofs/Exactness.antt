@@ -1,24 +1,24 @@
 -- A plan's clauses hold exactly under the values of its gates, and its root's clause where the plan is true.
-use mathlib.Core.Path.{_≡_, refl, sym, ap, ap₂, subst, _∙_}
-use mathlib.Core.Bool.{Bool, true, false, _&&_, _||_}
-use mathlib.Core.List.{List, [], _∷_, _++_, map}
+use mathlib.Core.Path.{_≡_, refl, sym, ap, subst, _∙_}
+use mathlib.Core.Bool.{Bool, true, false, _&&_}
+use mathlib.Core.List.{List, [], _∷_, _++_}
 use mathlib.Core.Logic.{_↔_}
-use Prim.Native.Nat.{ℕ, zero, suc, _+_, _<_, _≤_}
+use Prim.Native.Nat.{ℕ, _+_}
 use native.Mathlib.Omega.{arith}
 use lib.Dec.{T}
-use lib.ListN.{length, getD}
+use lib.ListN.{length}
 use Rattle.std.specs.declared.option.Option.{Option}
 use Rattle.std.specs.declared.option.Option.the-variants.{Some, None}
-use Rattle.std.proofs.shelf.Lists.{append-assoc, append-nil, length-append, length-push}
+use Rattle.std.proofs.shelf.Lists.{append-assoc, append-nil, length-push}
 use Rattle.clauses.specs.Literals.{literal-of, literal-value}
-use Rattle.clauses.specs.Clauses.{holds, all-hold}
+use Rattle.clauses.specs.Clauses.{all-hold}
 use Rattle.gates.specs.Kinds.{Kind}
 use Rattle.gates.specs.Nodes.{Node, value-at, node-value, values-of, Fits}
 use Rattle.gates.specs.GateClauses.{clauses-of, Gate-law}
 use Rattle.gates.proofs.Computed.{and-left, and-right}
-use Rattle.model.specs.Plans.{Plan, Well-made, All-fit, signals, complete, plan-values, true-under, nodes-clauses, root-clauses, plan-clauses}
-use Rattle.model.specs.Law.{Exact, Setting-of}
-use Rattle.model.proofs.Values.{value-front, value-next, fitting-value, values-front}
+use Rattle.model.specs.Plans.{Plan, Well-made, All-fit, complete, plan-values, true-under, nodes-clauses, root-clauses, plan-clauses}
+use Rattle.model.specs.PlanLaw.{Exact, Setting-of}
+use Rattle.model.proofs.Values.{value-next, fitting-value, values-front}
 
 both : (a b : Bool) → T a → T b → T (a && b)
 both true b s t = t

@@ -1,49 +1,28 @@
 -- What it says of a call that it is granted.
-use mathlib.Core.Path.{_≡_, refl, sym, ap, subst, _∙_}
-use mathlib.Core.Bool.{Bool, true, false, not, cond, _&&_, _||_}
-use mathlib.Core.List.{List, [], _∷_, _++_}
-use Prim.Native.Nat.{ℕ, zero, suc, _+_, _<_, _≤_}
+use mathlib.Core.Path.{_≡_, refl, sym, ap, subst}
+use mathlib.Core.Bool.{Bool, true, false, cond}
+use mathlib.Core.List.{List, [], _∷_}
+use Prim.Native.Nat.{ℕ, _+_}
 use native.Mathlib.Omega.{arith}
-use lib.Dec.{T, eqb, leb}
-use lib.ListN.{length, getD}
+use lib.Dec.{T, eqb}
+use lib.ListN.{length}
 use Rattle.std.specs.declared.option.Option.{Option}
 use Rattle.std.specs.declared.option.Option.the-variants.{Some, None}
 use Rattle.std.specs.declared.result.Result.{Result}
 use Rattle.std.specs.declared.result.Result.the-variants.{Ok, Err}
-use Rattle.std.proofs.shelf.Tests.{leb-true, leb-false, eqb-true, not-false, and-parts}
+use Rattle.std.proofs.shelf.Tests.{leb-false, eqb-true, not-false}
 use Rattle.clauses.specs.declared.refusals.Refusal.{Refusal}
 use Rattle.clauses.specs.declared.refusals.Refusal.the-variants.{Closed}
 use Rattle.clauses.specs.Joining.{clashes, merged, only}
 use Rattle.gates.specs.Kinds.{Kind}
-use Rattle.gates.specs.Nodes.{Earlier, Fits}
+use Rattle.gates.specs.Nodes.{Fits}
 use Rattle.books.specs.Book.{clause-at, written}
-use Rattle.books.specs.Promise.{write-answer}
 use Rattle.model.specs.Standings.{closed}
-use Rattle.model.specs.Refusing.{Reason, unless}
-use Rattle.model.specs.Plans.{node, is-signal, are-signals, true-under}
+use Rattle.model.specs.Plans.{node, are-signals, true-under}
 use Rattle.model.specs.Settings.{setting-of, count-on}
 use Rattle.model.specs.Dockets.{Docket, in-use}
 use Rattle.model.specs.Calls.{define-reasons, define-answer, resolvent-of, resolvent, write-resolvent, resolve-answer, with-resolvent, strike-found, strike-answer, settle-found, settle-answer, show-reasons, show-answer, with-book}
-
--- no reason of the list holds
-abbrev pub None-hold : List Reason → Type 0
-None-hold [] = Unit {0}
-None-hold (r ∷ rs) = (r .holds-here ≡ false) × None-hold rs
-
-pub none-hold : {A : Type 0} (rs : List Reason) (a x : A) → unless rs a ≡ Ok x → None-hold rs × (a ≡ x)
-none-hold [] a x e = (tt, cc)
-none-hold (r ∷ rs) a x e = go (r .holds-here) refl e (none-hold rs a x)
-  where
-    go : (b : Bool) → r .holds-here ≡ b → cond b (Err (r .refusal)) (unless rs a) ≡ Ok x → (unless rs a ≡ Ok x → None-hold rs × (a ≡ x)) → None-hold (r ∷ rs) × (a ≡ x)
-    go true q f ih = let z : _≡_ {A = ℕ} 0 1 = cc in absurd (omega arith)
-    go false q f ih = let h = ih f in ((q, h .0), h .1)
-
-pub signals-earlier : (n : ℕ) (ss : List ℕ) → are-signals n ss ≡ true → Earlier n ss
-signals-earlier n [] e j h = absurd (omega arith)
-signals-earlier n (s ∷ ss) e zero h =
-    let here = and-parts (leb 1 s) (leb s n) (and-parts (is-signal n s) (are-signals n ss) e .0) in
-    (leb-true 1 s (here .0), leb-true s n (here .1))
-signals-earlier n (s ∷ ss) e (suc j) h = signals-earlier n ss (and-parts (is-signal n s) (are-signals n ss) e .1) j (omega arith)
+use Rattle.model.proofs.Reasons.{none-hold, signals-earlier}
 
 -- a definition that is granted fits, and is the next signal
 pub define-granted : (K : Kind) (d : Docket) (z code : ℕ) (operands : List ℕ) (x : ℕ) → define-answer K d z code operands ≡ Ok x → Fits K (in-use d) (node code operands) × (z ≡ in-use d + 1)

@@ -1,19 +1,16 @@
 -- The law of every run, from its three parts.
-use mathlib.Core.Path.{_≡_, refl, sym, ap, subst, _∙_}
-use mathlib.Core.Bool.{Bool, true}
+use mathlib.Core.Path.{_≡_, sym, ap, subst, _∙_}
+use mathlib.Core.Bool.{true}
 use mathlib.Core.List.{List}
 use mathlib.Core.Logic.{_⊎_, inl, inr}
 use Prim.Native.Nat.{ℕ}
 use native.Mathlib.Omega.{arith}
 use lib.Dec.{T}
-use Rattle.std.specs.declared.option.Option.the-variants.{Some}
 use Rattle.std.specs.declared.result.Result.the-variants.{Ok, Err}
 use Rattle.std.proofs.shelf.Tests.{cond-true}
 use Rattle.clauses.specs.declared.refusals.Refusal.the-variants.{Closed}
-use Rattle.clauses.specs.Clauses.{holds}
 use Rattle.gates.specs.Kinds as kinds
 use Rattle.gates.specs.Kinds.{Kind, Lawful}
-use Rattle.gates.specs.Nodes.{value-at}
 use Rattle.gates.specs.GateClauses.{Gate-law}
 use Rattle.gates.proofs.GateLaw.{gate-law}
 use Rattle.books.specs.Book.{Book}
@@ -23,7 +20,8 @@ use Rattle.model.specs.Standings.{closed}
 use Rattle.model.specs.Plans.{Plan, Well-made, true-under}
 use Rattle.model.specs.Dockets.{Docket, open-answer, opened}
 use Rattle.model.specs.Calls.{Call, Define, Resolve, Strike, Settle, Show, answer, changed, run}
-use Rattle.model.specs.Law.{Setting-of, Cannot-run, docket-values, Shown, Sound, Final, Law-of-every-run}
+use Rattle.model.specs.PlanLaw.{Cannot-run}
+use Rattle.model.specs.Law.{Shown, Sound, Final, Law-of-every-run}
 use Rattle.model.proofs.Exactness.{plan-exact}
 use Rattle.model.proofs.Soundness.{Right, run-right, open-right}
 use Rattle.model.proofs.Showing.{run-plan, runs-shown}

@@ -1,6 +1,6 @@
 -- When a docket is opened, and under which numbers the plan's clauses then stand.
 use mathlib.Core.Path.{_≡_, refl, sym, ap, subst, _∙_}
-use mathlib.Core.Bool.{Bool, true, false, not, cond, _&&_}
+use mathlib.Core.Bool.{Bool, true, false, not}
 use mathlib.Core.List.{List, [], _∷_}
 use Prim.Native.Nat.{ℕ, zero, suc, _+_, _<_, _≤_}
 use native.Mathlib.Omega.{arith}
@@ -15,7 +15,7 @@ use Rattle.books.proofs.BookLaws.{written-given, written-stands}
 use Rattle.model.specs.Plans.{Plan, complete, plan-clauses}
 use Rattle.model.specs.Dockets.{literal-count, has-room, all-written, open-reasons, open-answer, opened}
 use Rattle.model.specs.Law.{Opens}
-use Rattle.model.proofs.Granting.{none-hold}
+use Rattle.model.proofs.Reasons.{none-hold}
 use Rattle.model.proofs.Written.{all-written-keeps}
 
 -- clauses written one after another have the next numbers in order
@@ -42,16 +42,17 @@ module _ (K : Kind) (p : Plan) (b : Book) where
       cond-false (not (complete p)) _ _ (not-from-true (complete p) (holds-true (complete p) full))
       ∙ cond-false (not (eqb (given b) 0)) _ _ (not-from-true (eqb (given b) 0) (eq-eqb (given b) 0 unused))
       ∙ cond-false (not (has-room b cs)) _ _
-        (not-from-true (has-room b cs) (and-from (leb (length cs) (free-numbers b)) (leb (literal-count cs) (free-cells b)) (le-leb (length cs) (free-numbers b) numbers) (le-leb (literal-count cs) (free-cells b) cells)))
+      (not-from-true (has-room b cs) (and-from (leb (length cs) (free-numbers b)) (leb (literal-count cs) (free-cells b)) (le-leb (length cs) (free-numbers b) numbers) (le-leb (literal-count cs) (free-cells b) cells)))
 
   only-if : open-answer K p b ≡ Ok tt → T (complete p) × (given b ≡ 0) × (length cs ≤ free-numbers b) × (literal-count cs ≤ free-cells b)
   only-if e =
       let (full, (unused, (room, more))) = none-hold (open-reasons K p b) tt tt e .0 in
-      let parts = and-parts (leb (length cs) (free-numbers b)) (leb (literal-count cs) (free-cells b)) (not-false (has-room b cs) room) in
-      ( subst T (sym (not-false (complete p) full)) tt
-      , eqb-true (given b) 0 (not-false (eqb (given b) 0) unused)
-      , leb-true (length cs) (free-numbers b) (parts .0)
-      , leb-true (literal-count cs) (free-cells b) (parts .1) )
+      let parts = and-parts (leb (length cs) (free-numbers b)) (leb (literal-count cs) (free-cells b)) (not-false (has-room b cs) room) in (
+        subst T (sym (not-false (complete p) full)) tt,
+        eqb-true (given b) 0 (not-false (eqb (given b) 0) unused),
+        leb-true (length cs) (free-numbers b) (parts .0),
+        leb-true (literal-count cs) (free-cells b) (parts .1),
+      )
 
   in-order : open-answer K p b ≡ Ok tt → (k : ℕ) → k < length cs → clause-at (opened K p b .book) (k + 1) ≡ Some (getD cs k [])
   in-order e k h =

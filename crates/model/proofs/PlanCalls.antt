@@ -1,5 +1,5 @@
 -- The calls that make a plan keep it well made.
-use mathlib.Core.Path.{_≡_, refl, sym, ap, subst, _∙_}
+use mathlib.Core.Path.{_≡_, subst}
 use mathlib.Core.Bool.{Bool, true, false, not, _&&_}
 use mathlib.Core.List.{List, [], _∷_, _++_}
 use Prim.Native.Nat.{ℕ, _+_, _≤_}
@@ -17,8 +17,8 @@ use Rattle.gates.specs.Kinds.{Kind}
 use Rattle.gates.specs.Nodes.{Node, Fits}
 use Rattle.model.specs.Refusing.{if}
 use Rattle.model.specs.Plans.{Plan, node, Well-made, All-fit, signals, complete, is-signal, are-signals, begin-answer, begun, gate-reasons, gate-answer, with-gate, root-answer, with-root}
-use Rattle.model.specs.Law.{Plan-calls}
-use Rattle.model.proofs.Granting.{none-hold, signals-earlier}
+use Rattle.model.specs.PlanLaw.{Plan-calls}
+use Rattle.model.proofs.Reasons.{none-hold, signals-earlier}
 
 pub all-fit-push : (K : Kind) (n : ℕ) (gs : List Node) (g : Node) → All-fit K n gs → Fits K (n + length gs) g → All-fit K n (gs ++ g ∷ [])
 all-fit-push K n [] g a f = (subst (λ (m : ℕ). Fits K m g) (omega arith) f, tt)

@@ -1,17 +1,17 @@
 -- A refutation by resolution, over any kind of state that keeps clauses under numbers: a tree over the signals, whose
 -- leaves are clauses that a setting of all signals makes false.
-use mathlib.Core.Path.{_≡_, refl, sym, ap, subst, _∙_}
-use mathlib.Core.Bool.{Bool, true, false, not, cond}
+use mathlib.Core.Path.{_≡_, refl, sym, subst, _∙_}
+use mathlib.Core.Bool.{Bool, true, false, cond}
 use mathlib.Core.List.{List, [], _∷_, _++_}
 use mathlib.Core.Logic.{_⊎_, inl, inr, _≢_}
-use Prim.Native.Nat.{ℕ, zero, suc, _+_, _*_, _^_, _<_, _≤_}
+use Prim.Native.Nat.{ℕ, zero, suc, _+_, _^_, _≤_}
 use native.Mathlib.Omega.{arith}
 use lib.Dec.{eqb, T}
 use lib.ListN.{length, length-append}
 use Rattle.clauses.specs.Literals.{signal, literal-of, flip, literal-value}
 use Rattle.clauses.specs.Clauses.{Member, member, Rising-above, Rising}
 use Rattle.clauses.specs.Joining.{clashes, merged}
-use Rattle.clauses.specs.JoiningLaw.{Clash-on, Pivot, Resolvent}
+use Rattle.clauses.specs.JoiningLaw.{Clash-on, Pivot}
 use Rattle.clauses.proofs.Flips.{signal-flip, literal-value-flip}
 use Rattle.clauses.proofs.Members.{member-stands, stands-member}
 use Rattle.clauses.proofs.JoiningLaw.{joins}

@@ -1,7 +1,6 @@
 -- A docket that stands at 'runs' was shown a setting that makes its plan true.
 use mathlib.Core.Path.{_≡_, refl, sym, ap, subst, _∙_}
-use mathlib.Core.Bool.{Bool}
-use mathlib.Core.List.{List, [], _∷_, _++_}
+use mathlib.Core.List.{List, [], _∷_}
 use mathlib.Core.Logic.{_⊎_, inl, inr}
 use Prim.Native.Nat.{ℕ}
 use native.Mathlib.Omega.{arith}
@@ -11,7 +10,7 @@ use Rattle.std.specs.declared.result.Result.the-variants.{Ok, Err}
 use Rattle.clauses.specs.declared.refusals.Refusal.{Refusal}
 use Rattle.gates.specs.Kinds.{Kind}
 use Rattle.books.specs.Promise.{granted}
-use Rattle.model.specs.declared.standing.Standing.the-variants.{CannotRun, Runs}
+use Rattle.model.specs.declared.standing.Standing.the-variants.{Runs}
 use Rattle.model.specs.Plans.{Plan, true-under}
 use Rattle.model.specs.Settings.{setting-of, count-on}
 use Rattle.model.specs.Dockets.{Docket}

@@ -1,14 +1,13 @@
 -- What every step keeps: standing clauses hold under the settings that make the plan true, and a docket that stands at
 -- 'cannot run' is right.
 use mathlib.Core.Path.{_≡_, refl, sym, ap, ap₂, subst, _∙_}
-use mathlib.Core.Bool.{Bool, true, false, _||_}
-use mathlib.Core.List.{List, [], _∷_, _++_, map}
+use mathlib.Core.Bool.{Bool, true, _||_}
+use mathlib.Core.List.{List, [], _∷_, _++_}
 use mathlib.Core.Logic.{_⊎_, inl, inr}
-use Prim.Native.Nat.{ℕ, _+_, _<_, _≤_}
+use Prim.Native.Nat.{ℕ, _+_, _≤_}
 use native.Mathlib.Omega.{arith}
 use lib.Dec.{T, eqb}
 use lib.ListN.{length}
-use Rattle.std.specs.declared.option.Option.{Option}
 use Rattle.std.specs.declared.option.Option.the-variants.{Some, None}
 use Rattle.std.specs.declared.result.Result.{Result}
 use Rattle.std.specs.declared.result.Result.the-variants.{Ok, Err}
@@ -20,23 +19,24 @@ use Rattle.clauses.specs.Clauses.{holds, all-hold, Member, Rising}
 use Rattle.clauses.specs.JoiningLaw.{Resolvent}
 use Rattle.clauses.proofs.JoiningLaw.{joins}
 use Rattle.gates.specs.Kinds.{Kind}
-use Rattle.gates.specs.Nodes.{Node, value-at, node-value, values-of, Fits}
+use Rattle.gates.specs.Nodes.{Node, value-at, node-value, Fits}
 use Rattle.gates.specs.GateClauses.{clauses-of, Clauses-law, Gate-law}
 use Rattle.books.specs.Book.{Book, given, clause-at, written, struck}
 use Rattle.books.specs.Promise.{granted}
 use Rattle.books.proofs.BookLaws.{numbered, struck-gone, struck-others}
-use Rattle.model.specs.declared.standing.Standing.{Standing}
-use Rattle.model.specs.declared.standing.Standing.the-variants.{Open, CannotRun, Runs}
+use Rattle.model.specs.declared.standing.Standing.the-variants.{CannotRun, Runs}
 use Rattle.model.specs.Plans.{Plan, node, Well-made, All-fit, signals, complete, plan-values, true-under, plan-clauses}
 use Rattle.model.specs.Dockets.{Docket, in-use, all-written, opened, open-reasons, open-answer}
 use Rattle.model.specs.Calls.{Call, Define, Resolve, Strike, Settle, Show, answer, changed, step, run, with-book, with-standing, defined}
-use Rattle.model.specs.Law.{Setting-of, Cannot-run, docket-values}
+use Rattle.model.specs.PlanLaw.{Setting-of, Cannot-run}
+use Rattle.model.specs.Law.{docket-values}
 use Rattle.model.proofs.PlanCalls.{all-fit-push}
 use Rattle.model.proofs.Values.{value-front, value-next, fitting-value, values-push, values-length}
 use Rattle.model.proofs.Exactness.{plan-exact}
 use Rattle.model.proofs.Written.{In, all-in, hold-in, written-from, all-written-from}
 use Rattle.model.proofs.Shapes.{Shaped, shaped-more, plan-shaped}
-use Rattle.model.proofs.Granting.{Resolving, None-hold, none-hold, define-granted, resolve-granted, strike-granted, settle-granted}
+use Rattle.model.proofs.Granting.{Resolving, define-granted, resolve-granted, strike-granted, settle-granted}
+use Rattle.model.proofs.Reasons.{None-hold, none-hold}
 
 pub literal-alike : (v w : ℕ → Bool) (l : ℕ) → v (signal l) ≡ w (signal l) → literal-value v l ≡ literal-value w l
 unfolding literal-value

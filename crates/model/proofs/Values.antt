@@ -1,15 +1,14 @@
 -- The values of signals: how they grow with each node, and that earlier ones stay.
-use mathlib.Core.Path.{_≡_, refl, sym, ap, ap₂, subst, _∙_}
-use mathlib.Core.Bool.{Bool, true, false, _&&_}
+use mathlib.Core.Path.{_≡_, refl, sym, ap, ap₂, _∙_}
+use mathlib.Core.Bool.{Bool, false, _&&_}
 use mathlib.Core.List.{List, [], _∷_, _++_, map}
-use Prim.Native.Nat.{ℕ, zero, suc, _+_, _<_, _≤_}
+use Prim.Native.Nat.{ℕ, suc, _+_, _≤_}
 use native.Mathlib.Omega.{arith}
-use lib.ListN.{length, getD}
-use Rattle.std.proofs.shelf.Lists.{append-assoc, append-nil, length-append, length-push, getD-append-left, getD-at, getD-append-add}
+use lib.ListN.{length}
+use Rattle.std.proofs.shelf.Lists.{append-assoc, append-nil, length-append, getD-append-left, getD-at}
 use Rattle.gates.specs.Kinds.{Kind}
-use Rattle.gates.specs.Nodes.{Node, value-at, known, operand-row, node-value, values-of, Earlier, Fits}
+use Rattle.gates.specs.Nodes.{Node, value-at, operand-row, node-value, values-of, Earlier, Fits}
 use Rattle.gates.proofs.Known.{known-fits}
-use Rattle.model.specs.Plans.{All-fit}
 
 -- a signal that has a value keeps it when more follow
 pub value-front : (vs ws : List Bool) (s : ℕ) → s ≤ length vs → value-at (vs ++ ws) s ≡ value-at vs s

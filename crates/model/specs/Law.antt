@@ -1,8 +1,7 @@
--- The law of every run: exact, sound and complete.
+-- The law of every run: plans, opens, exact, sound, final and complete.
 use mathlib.Core.Path.{_≡_}
 use mathlib.Core.Bool.{Bool, true}
 use mathlib.Core.List.{List, [], _∷_, _++_, map}
-use mathlib.Core.Logic.{_↔_}
 use Prim.Native.Nat.{ℕ, _+_, _*_, _^_, _<_, _≤_}
 use lib.Dec.{T}
 use lib.ListN.{length, getD}
@@ -10,36 +9,17 @@ use Rattle.std.specs.Results.{isOk}
 use Rattle.std.specs.declared.option.Option.the-variants.{Some}
 use Rattle.std.specs.declared.result.Result.the-variants.{Ok, Err}
 use Rattle.clauses.specs.declared.refusals.Refusal.the-variants.{Closed}
-use Rattle.clauses.specs.Clauses.{holds, all-hold}
+use Rattle.clauses.specs.Clauses.{holds}
 use Rattle.gates.specs.Kinds.{Kind}
 use Rattle.gates.specs.Nodes.{value-at, values-of}
 use Rattle.books.specs.Book.{Book, given, clause-at, free-numbers, free-cells}
-use Rattle.model.specs.declared.standing.Standing.{Standing}
 use Rattle.model.specs.declared.standing.Standing.the-variants.{CannotRun, Runs}
 use Rattle.model.specs.Standings.{closed}
-use Rattle.model.specs.Plans.{Plan, node, Well-made, signals, complete, begin-answer, begun, gate-answer, with-gate, root-answer, with-root, plan-values, true-under, plan-clauses}
+use Rattle.model.specs.Plans.{Plan, Well-made, signals, complete, plan-values, true-under, plan-clauses}
+use Rattle.model.specs.PlanLaw.{Plan-calls, Setting-of, Cannot-run, Exact}
 use Rattle.model.specs.Settings.{setting-of, count-on}
 use Rattle.model.specs.Dockets.{Docket, literal-count, open-answer, opened}
 use Rattle.model.specs.Calls.{Call, Resolve, Settle, Show, answer, step, run}
-
--- begin, gate and root make plans whose gates are over earlier signals and whose root is a signal
-pub record Plan-calls (K : Kind) : Type 0 where
-  pub begins : (n : ℕ) → begin-answer n ≡ Ok tt → Well-made K (begun n)
-  pub adds-gate : (p : Plan) → Well-made K p → (code : ℕ) (operands : List ℕ) (s : ℕ) → gate-answer K p code operands ≡ Ok s → Well-made K (with-gate p (node code operands)) × (s ≡ signals (with-gate p (node code operands)))
-  pub sets-root : (p : Plan) → Well-made K p → (s : ℕ) → root-answer p s ≡ Ok tt → Well-made K (with-root p s) × T (complete (with-root p s))
-
--- a setting of n switches
-abbrev pub Setting-of : ℕ → List Bool → Type 0
-Setting-of n setting = length setting ≡ n
-
--- no setting makes the plan true
-abbrev pub Cannot-run : Kind → Plan → Type 0
-Cannot-run K p = (setting : List Bool) → Setting-of (p .switches) setting → T (true-under K p setting) → ⊥
-
--- a setting makes the plan true exactly if some choice of gate values makes its clauses hold, and no other choice does
-pub record Exact (K : Kind) (p : Plan) (setting : List Bool) : Type 0 where
-  pub some-choice : T (true-under K p setting) ↔ ((chosen : List Bool) × (length chosen ≡ length (p .gates)) × T (all-hold (value-at (setting ++ chosen)) (plan-clauses K p)))
-  pub no-other : (chosen : List Bool) → length chosen ≡ length (p .gates) → T (all-hold (value-at (setting ++ chosen)) (plan-clauses K p)) → setting ++ chosen ≡ plan-values K p setting
 
 -- open is granted exactly to a complete plan and an empty book that has room for the plan's clauses, and they then stand under 1, 2, .. in order
 pub record Opens (K : Kind) (p : Plan) (b : Book) : Type 0 where

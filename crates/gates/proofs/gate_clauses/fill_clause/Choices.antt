@@ -1,7 +1,6 @@
 use mathlib.Core.Path.{_≡_}
-use mathlib.Core.List.{List, []}
+use mathlib.Core.List.{[]}
 use lib.ListN.{length, getD}
-use Rattle.gates.specs.declared.kinds.SlotLiteral.{SlotLiteral}
 use Rattle.gates.specs.Nodes.{node-of}
 use Rattle.clauses.specs.Buffers.{written-over}
 use Rattle.gates.specs.GateClauses.{put-in, node-patterns}

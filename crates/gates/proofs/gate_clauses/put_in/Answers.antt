@@ -7,7 +7,7 @@ use lib.ListN.{getD, length, take}
 use Rattle.std.proofs.shelf.Lists.{getD-take, length-take-le}
 use Rattle.clauses.specs.Literals.{literal-of}
 use Rattle.gates.specs.declared.kinds.Slot.{Slot}
-use Rattle.gates.specs.declared.kinds.Slot.the-variants.{Operand, Output}
+use Rattle.gates.specs.declared.kinds.Slot.the-variants.{Operand}
 use Rattle.gates.specs.Kinds.{in-place}
 use Rattle.gates.specs.GateClauses.{slot-signal}
 use Rattle.gates.proofs.gate_clauses.put_in.Needs as need

@@ -1,8 +1,8 @@
-use mathlib.Core.Path.{sym, ap, ap₂, _∙_}
+use mathlib.Core.Path.{sym, ap₂, _∙_}
 use mathlib.Core.List.{[], _∷_, _++_}
 use native.Mathlib.Omega.{arith}
 use Prim.Native.Nat.{_<_}
-use lib.ListN.{length, getD, length-set}
+use lib.ListN.{length, length-set}
 use Rattle.std.proofs.shelf.Lists.{take-more-set, map-more}
 use Rattle.gates.specs.Nodes.{value-at}
 use Rattle.gates.proofs.nodes.operand_row.Needs as need
