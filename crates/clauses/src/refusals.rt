@@ -2,30 +2,52 @@
 ghost use mathlib.Core.Path.{_≡_};
 ghost use Rattle.clauses.specs.Refusals.{numberOf, wordsOf};
 
-// Each case has a number and words, given by `numberOf` and `wordsOf`; want of memory has no number.
+// Each case has a number and words, as `numberOf` and `wordsOf` define them; want of memory has no number.
 #[derive(Clone, Copy, PartialEq, Eq, Debug)]
 pub enum Refusal {
+    // 1 long text: more than 32,768 bytes
     LongText,
+    // 2 bad line: not of a line's or a formula's form
     BadLine,
+    // 3 out of place: a call or a line that is not due now
     OutOfPlace,
+    // 4 too deep: nesting past 32
     TooDeep,
+    // 5 size: switches, a 257th gate, or a book's size past its limit
     Size,
+    // 6 operator: the kind has no such code
     Operator,
+    // 7 operand count: differs from the code's
     OperandCount,
+    // 8 no signal: 0 or not yet there; in a formula, no switch
     NoSignal,
+    // 9 not new: not the next signal
     NotNew,
+    // 10 signals spent: 1,024 are in use
     SignalsSpent,
+    // 11 no clause: nothing stands there
     NoClause,
+    // 12 no clash
     NoClash,
+    // 13 second clash: on two signals or more
     SecondClash,
+    // 14 long clause: more than 64 literals
     LongClause,
+    // 15 book full: no number or too few cells left
     BookFull,
+    // 16 not empty: the clause has literals
     NotEmpty,
+    // 17 setting: wrong number of bytes or digits, or a spare bit set
     Setting,
+    // 18 plan false: the setting does not make the plan true
     PlanFalse,
+    // 19 closed: the docket is not open
     Closed,
+    // 20 used book: a number was given before opening
     UsedBook,
+    // 21 short line: fewer than 32 bytes to write to
     ShortLine,
+    // out of memory, which has no number
     OutOfMemory,
 }
 
