@@ -12,6 +12,7 @@ use Rattle.std.proofs.shelf.Lists.{length-push, length-set, getD-push, getD-pas
 use Rattle.std.proofs.shelf.Tests.{cases-lt, ne-eqb}
 use Rattle.books.specs.Book.{Book, empty, given, clause-at, slot-size, total-size, standing-literals, free-numbers, free-cells, written, struck}
 use Rattle.books.specs.BookLaw.{Empty-law, Written-law, Struck-law, Book-law}
+use Rattle.books.proofs.BookAnswers.{write-granted}
 
 -- numbers count from 1
 pub clause-at-zero : (b : Book) → clause-at b 0 ≡ None
@@ -131,4 +132,4 @@ struck-law b k c e = record {
 }
 
 pub book-law : Book-law
-book-law = record { empty-book = empty-law; numbered = numbered; writing = written-law; striking = struck-law }
+book-law = record { empty-book = empty-law; numbered = numbered; granting = write-granted; writing = written-law; striking = struck-law }

@@ -5,6 +5,9 @@ use mathlib.Core.Logic.{_≢_}
 use Prim.Native.Nat.{ℕ, _+_, _≤_}
 use lib.ListN.{length}
 use Rattle.std.specs.declared.option.Option.the-variants.{Some, None}
+use Rattle.std.specs.declared.result.Result.the-variants.{Ok}
+use Rattle.clauses.specs.Limits.{max-literals}
+use Rattle.books.specs.Promise.{write-answer}
 use Rattle.books.specs.Book.{Book, empty, given, clause-at, standing-literals, free-numbers, free-cells, written, struck}
 
 -- an empty book of t numbers and l cells
@@ -34,5 +37,7 @@ pub record Struck-law (b : Book) (k : ℕ) (c : List ℕ) : Type 0 where
 pub record Book-law : Type 0 where
   pub empty-book : (t l : ℕ) → Empty-law t l
   pub numbered : (b : Book) (k : ℕ) (c : List ℕ) → clause-at b k ≡ Some c → (1 ≤ k) × (k ≤ given b)
+  -- a short clause is granted the next number wherever a number and enough cells are free
+  pub granting : (b : Book) (c : List ℕ) → length c ≤ max-literals → 1 ≤ free-numbers b → length c ≤ free-cells b → write-answer b c ≡ Ok (given b + 1)
   pub writing : (b : Book) (c : List ℕ) → Written-law b c
   pub striking : (b : Book) (k : ℕ) (c : List ℕ) → clause-at b k ≡ Some c → Struck-law b k c
