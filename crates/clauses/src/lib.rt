@@ -1,4 +1,6 @@
 // The vocabulary that every crate shares: literals, clauses, limits and refusals.
+#![tactic(auto)]
+
 pub mod joining;
 pub mod limits;
 pub mod literals;

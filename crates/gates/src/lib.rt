@@ -1,4 +1,5 @@
 // Gate kinds and their law, the value of nodes, and the clauses of a gate.
+#![tactic(auto)]
 pub mod gate_clauses;
 pub mod kinds;
 pub mod nodes;

@@ -1,4 +1,5 @@
 // From a text to the verdict line.
+#![tactic(auto)]
 pub mod judging;
 mod numbered;
 mod planning;

@@ -1,4 +1,5 @@
 // Judges texts with both clause books, and prints each one's name and verdict line.
+#![tactic(auto)]
 mod formula_texts;
 mod full_books;
 mod line_forms;

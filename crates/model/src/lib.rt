@@ -1,4 +1,5 @@
 // What the referee promises: plans, dockets, calls, and the law of every run.
+#![tactic(auto)]
 pub mod law;
 pub mod standing;
 

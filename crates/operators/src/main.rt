@@ -1,4 +1,5 @@
 // Prints the operator tables that the clauses come from, for a person to read.
+#![tactic(auto)]
 mod text;
 
 use gates::{GateKind, TwoInput, Wide};
