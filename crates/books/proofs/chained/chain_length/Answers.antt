@@ -7,8 +7,8 @@ use Rattle.books.proofs.chained.chain_length.Goals as goal
 pub get-cell-requires : goal.get-cell-requires
 get-cell-requires c = let n = chain_next _ _ c.loop-cell.invariant.0 c.loop-cell-test.true in (n.pos, n.within)
 
-pub overflow-add-count : goal.overflow-add-count
-overflow-add-count c = omega (arith, chain-short (cells_of c.args.table.now) c.args.first)
+pub overflow_add-count : goal.overflow_add-count
+overflow_add-count c = omega (arith, chain-short (cells_of c.args.table.now) c.args.first)
 
 pub loop-cell-preserved : goal.loop-cell-preserved
 loop-cell-preserved c =

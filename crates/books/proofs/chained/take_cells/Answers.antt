@@ -10,7 +10,7 @@ use Rattle.books.proofs.chained.take_cells.Goals as goal
 pub loop-literal-init : goal.loop-literal-init
 loop-literal-init c =
     taken_none _ _ _ _ c.requires.free
-    (ap (λ i. iter_rest (rev_source i)) c.into-iter-literal-iterator.ensures.into-iter-gives ∙ ap iter_rest c.rev-literal-items.ensures.source ∙ c.iter.ensures.rest)
+    (ap (λ i. iter_rest (rev_source i)) c.into_iter-literal-iterator.ensures.into_iter_gives ∙ ap iter_rest c.rev-literal-items.ensures.source ∙ c.iter.ensures.rest)
 
 pub get-free-requires : goal.get-free-requires
 get-free-requires c =

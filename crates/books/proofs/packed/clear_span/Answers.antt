@@ -25,7 +25,7 @@ pub lower-requires : goal.lower-requires
 lower-requires c i s e =
     let xs = vec_items c.args.spans.now in
     c.requires.above (c.args.place + 1 + i) s (omega arith)
-    (sym (get_or-drop (c.args.place + 1) xs i None) ∙ sym (ap (λ l. get_or l i None) (past xs c.deref-mut.result.now c.args.place (omega arith) c.deref-mut.ensures.value)) ∙ e)
+    (sym (get_or-drop (c.args.place + 1) xs i None) ∙ sym (ap (λ l. get_or l i None) (past xs c.deref_mut.result.now c.args.place (omega arith) c.deref_mut.ensures.value)) ∙ e)
 
 pub returns : goal.returns
-returns c = record { items = written_back (vec_items c.args.spans.now) c.deref-mut.result.now c.args.place (omega arith) c.deref-mut.ensures.value c.lower.new.spans c.args.by (vec_len c.args.spans.now) (omega arith) c.lower.ensures; len = refl; capacity = refl }
+returns c = record { items = written_back (vec_items c.args.spans.now) c.deref_mut.result.now c.args.place (omega arith) c.deref_mut.ensures.value c.lower.new.spans c.args.by (vec_len c.args.spans.now) (omega arith) c.lower.ensures; len = refl; capacity = refl }

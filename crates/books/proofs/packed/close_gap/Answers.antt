@@ -9,5 +9,5 @@ returns c =
     record {
       len = omega arith;
       capacity = search rules;
-      items = gap_closed (vec_items ls) _ _ c.args.gap.start c.args.gap.length kept (vec_len ls) (omega arith) (omega arith) (omega arith) c.copy-within.ensures.items c.truncate.ensures.items;
+      items = gap_closed (vec_items ls) _ _ c.args.gap.start c.args.gap.length kept (vec_len ls) (omega arith) (omega arith) (omega arith) c.copy_within.ensures.items c.truncate.ensures.items;
     }

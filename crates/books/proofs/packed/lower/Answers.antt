@@ -6,10 +6,10 @@ use Rattle.books.specs.declared.spans.Span.{Span}
 use Rattle.books.specs.Packed.{lowered}
 use Rattle.books.proofs.PackedLayout.{get_or_mapping}
 use Rattle.books.proofs.packed.lower.Goals as goal
-use Rattle.books.proofs.packed.lower.Goals.{in-Some, in-default}
+use Rattle.books.proofs.packed.lower.Goals.{in-Some, in_default}
 
-pub overflow-sub-span : goal.overflow-sub-span
-overflow-sub-span c =
+pub overflow_sub-span : goal.overflow_sub-span
+overflow_sub-span c =
     c.requires c.loop-slot.slot-index c.in-Some.span
     (sym (get_or_mapping (option_map (lowered c.args.by)) c.args.spans.now c.loop-slot.spans c.loop-slot.slot-index None c.loop-slot-test.true c.loop-slot.invariant) ∙ c.in-Some.is)
 
@@ -24,7 +24,7 @@ again c o e =
 pub loop-slot-preserved : goal.loop-slot-preserved
 loop-slot-preserved c = elim c.match-slot.branch [
   | in-Some w ↦ w.spans-is ∙ again c (Some w.in-Some.span) w.in-Some.is
-  | in-default w ↦ w.spans-is ∙ ap (set c.loop-slot.spans c.loop-slot.slot-index) w.in-default.is ∙ again c None w.in-default.is
+  | in_default w ↦ w.spans-is ∙ ap (set c.loop-slot.spans c.loop-slot.slot-index) w.in_default.is ∙ again c None w.in_default.is
 ]
 
 pub returns : goal.returns

@@ -9,7 +9,7 @@ use Rattle.books.proofs.reading.read_clause.Goals as goal
 pub bounds-out-place : goal.bounds-out-place
 bounds-out-place g c =
     let o = clause_at (g.B.ClauseBook.meaning c.args.book.now) c.args.number in
-    let s = stands o _ c.in-ok-count.ensures in
+    let s = stands o _ c.in_ok-count.ensures in
     let short = (g.met.B.ClauseBook.sized c.args.book.now).short c.args.number s.clause s.is in
     omega arith
 
@@ -19,28 +19,28 @@ loop-place-init g c d is = record { front = refl; behind = refl }
 pub loop-place-preserved : goal.loop-place-preserved
 loop-place-preserved g c d is =
     let o = clause_at (g.B.ClauseBook.meaning c.args.book.now) c.args.number in
-    let long = length-read o d _ is c.in-ok-count.ensures in
+    let long = length-read o d _ is c.in_ok-count.ensures in
     let short = (g.met.B.ClauseBook.sized c.args.book.now).short c.args.number d is in
-    let read = literal_read o d c.loop-place.place is (omega arith) _ c.in-ok-out.ensures in
+    let read = literal_read o d c.loop-place.place is (omega arith) _ c.in_ok-out.ensures in
     put_one (omega arith) (rw read (drop_more d c.loop-place.place 0 (omega arith))) (c.loop-place.invariant d is)
 
 pub returns : goal.returns
 returns g c =
     let o = clause_at (g.B.ClauseBook.meaning c.args.book.now) c.args.number in
-    let s = stands o _ c.in-ok-count.ensures in
+    let s = stands o _ c.in_ok-count.ensures in
     let short = (g.met.B.ClauseBook.sized c.args.book.now).short c.args.number s.clause s.is in
     let all = drop_all c.loop-place.place s.clause (omega arith) in
     let done = put_done (omega arith) (put_none all (c.loop-place.invariant s.clause s.is)) in
-    record { answer = c.in-ok-count.ensures; buffer = done.1 ∙ sym (ap (λ p. read_buffer p c.args.out.now) s.is) }
+    record { answer = c.in_ok-count.ensures; buffer = done.1 ∙ sym (ap (λ p. read_buffer p c.args.out.now) s.is) }
 
-pub returns-in-err-count : goal.returns-in-err-count
-returns-in-err-count g c =
+pub returns-in_err-count : goal.returns-in_err-count
+returns-in_err-count g c =
     let o = clause_at (g.B.ClauseBook.meaning c.args.book.now) c.args.number in
-    let n = none-stands o _ c.in-err-count.ensures in
+    let n = none-stands o _ c.in_err-count.ensures in
     search rules
 
-pub returns-in-err-out : goal.returns-in-err-out
-returns-in-err-out g c =
+pub returns-in_err-out : goal.returns-in_err-out
+returns-in_err-out g c =
     let o = clause_at (g.B.ClauseBook.meaning c.args.book.now) c.args.number in
-    let s = stands o _ c.in-ok-count.ensures in
-    absurd (never_refused o s.clause c.loop-place.place s.is (omega arith) _ c.in-err-out.ensures)
+    let s = stands o _ c.in_ok-count.ensures in
+    absurd (never_refused o s.clause c.loop-place.place s.is (omega arith) _ c.in_err-out.ensures)

@@ -4,7 +4,7 @@ use Rattle.clauses.specs.Joining.{merged}
 use Rattle.clauses.proofs.Steps.{merged-step, merged_end}
 use Rattle.clauses.proofs.Writing.{put_none, put_one, put_all, put_done}
 use Rattle.clauses.proofs.joining.merge.Goals as goal
-use Rattle.clauses.proofs.joining.merge.Goals.{then-loop-i-test+else-j-right, else-loop-i-test, in-Some, in-default}
+use Rattle.clauses.proofs.joining.merge.Goals.{then-loop-i-test+else-j-right, else-loop-i-test, in-Some, in_default}
 
 pub loop-i-preserved : goal.loop-i-preserved
 loop-i-preserved c =
@@ -12,7 +12,7 @@ loop-i-preserved c =
     let f = simp (← c.kept.ensures, ← c.used-lefts.ensures) at e in (
       elim c.match-kept.branch [
         | in-Some w ↦ simp (w.out-is, w.count-is) (put_one (omega arith) (simp w.in-Some.is at f) c.loop-i.invariant.0)
-        | in-default w ↦ simp (w.out-is, w.count-is) (put_none (simp w.in-default.is at f) c.loop-i.invariant.0)
+        | in_default w ↦ simp (w.out-is, w.count-is) (put_none (simp w.in_default.is at f) c.loop-i.invariant.0)
       ],
       search rules,
       search rules,
@@ -28,7 +28,7 @@ returns c =
       | then-loop-i-test+else-j-right w ↦ merged_end xs ys (inr (drop_all _ _ w.if-j-right.false))
       | else-loop-i-test w ↦ merged_end xs ys (inl (drop_all _ _ w.loop-i-test.false))
     ] in
-    let p = put_all _ ys (omega arith) c.copy-at-count.ensures.end c.copy-at-count.ensures.buffer (rw take_rest e) c.loop-i.invariant.0 in
-    let q = put_all _ [] (omega (arith, length-take {A = ℕ}, length-drop {A = ℕ})) c.copy-at.ensures.end c.copy-at.ensures.buffer (rw take_rest (sym (append-nil ys))) p in
+    let p = put_all _ ys (omega arith) c.copy_at-count.ensures.end c.copy_at-count.ensures.buffer (rw take_rest e) c.loop-i.invariant.0 in
+    let q = put_all _ [] (omega (arith, length-take {A = ℕ}, length-drop {A = ℕ})) c.copy_at.ensures.end c.copy_at.ensures.buffer (rw take_rest (sym (append-nil ys))) p in
     let d = put_done (omega (arith, length-take {A = ℕ}, length-drop {A = ℕ})) q in
     record { count = d.0; buffer = d.1 }

@@ -5,18 +5,18 @@ use Rattle.clauses.specs.declared.joining.Meeting.TheVariants.{Clash}
 use Rattle.clauses.specs.Joining.{clashes}
 use Rattle.clauses.proofs.Steps.{clashes-step, clashes_end, only-listed}
 use Rattle.clauses.proofs.joining.pivot.Goals as goal
-use Rattle.clauses.proofs.joining.pivot.Goals.{then-loop-i-test+else-j-right, else-loop-i-test, in-Clash+in-ok-first-clash, in-default}
+use Rattle.clauses.proofs.joining.pivot.Goals.{then-loop-i-test+else-j-right, else-loop-i-test, in-Clash+in_ok-first_clash, in_default}
 
-pub returns-in-err-first-clash : goal.returns-in-err-first-clash
-returns-in-err-first-clash c =
+pub returns-in_err-first_clash : goal.returns-in_err-first_clash
+returns-in_err-first_clash c =
     let e = clashes-step Clash _ _ _ _ c.loop-i-test.true c.if-j-right.true c.in-Clash.ensures in
-    let p = err_from_is_err_and c.from-residual.result c.from-residual.ensures.1 in
-    grind (arith, e, p, c.in-err-first-clash.ensures)
+    let p = err_from_is_err_and c.from_residual.result c.from_residual.ensures.1 in
+    grind (arith, e, p, c.in_err-first_clash.ensures)
 
 pub loop-i-preserved : goal.loop-i-preserved
 loop-i-preserved c =
     let e = clashes-step _ _ _ _ _ c.loop-i-test.true c.if-j-right.true c.compare-meeting.ensures in
-    elim c.match-meeting.branch [ in-Clash+in-ok-first-clash w ↦ grind (arith, e, w.in-ok-first-clash.ensures) | in-default w ↦ grind (arith, e) ]
+    elim c.match-meeting.branch [ in-Clash+in_ok-first_clash w ↦ grind (arith, e, w.in_ok-first_clash.ensures) | in_default w ↦ grind (arith, e) ]
 
 pub returns : goal.returns
 returns c =

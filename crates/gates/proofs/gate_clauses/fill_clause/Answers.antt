@@ -7,26 +7,26 @@ use Rattle.gates.proofs.Known.{known-code, known-full, known_since, known_within
 use Rattle.gates.proofs.PatternSizes.{pattern_short, literal_in_place}
 use Rattle.gates.proofs.gate_clauses.fill_clause.Goals as goal
 
-pub pattern-size-place-end-requires : goal.pattern-size-place-end-requires
-pattern-size-place-end-requires g c =
+pub pattern_size-place-end-requires : goal.pattern_size-place-end-requires
+pattern_size-place-end-requires g c =
     let K = g.G.GateKind.kind in
     let node = node_of c.args.node.now in
     let k = known_since K node c.args.index c.requires.within in
     record { known = known-code K node k; within = known_within K node c.args.index k c.requires.within }
 
-pub pattern-literal-requires : goal.pattern-literal-requires
-pattern-literal-requires g c =
+pub pattern_literal-requires : goal.pattern_literal-requires
+pattern_literal-requires g c =
     let K = g.G.GateKind.kind in
     let node = node_of c.args.node.now in
     let k = known_since K node c.args.index c.requires.within in
     record { known = known-code K node k; within = known_within K node c.args.index k c.requires.within; inside = omega arith }
 
-pub put-in-literal-requires : goal.put-in-literal-requires
-put-in-literal-requires g c =
+pub put_in-literal-requires : goal.put_in-literal-requires
+put_in-literal-requires g c =
     let K = g.G.GateKind.kind in
     let node = node_of c.args.node.now in
     let k = known_since K node c.args.index c.requires.within in
-    literal_in_place K g.met.G.GateKind.sized node.code c.args.index c.loop-place.place _ c.pattern-literal.result (known-code K node k) (known-full K node k) (omega arith) c.pattern-literal.ensures
+    literal_in_place K g.met.G.GateKind.sized node.code c.args.index c.loop-place.place _ c.pattern_literal.result (known-code K node k) (known-full K node k) (omega arith) c.pattern_literal.ensures
 
 pub insert-count-requires : goal.insert-count-requires
 insert-count-requires g c =
@@ -45,13 +45,13 @@ loop-place-preserved g c =
     let f = put_in c.args.output node.operands in
     let same = known_pattern K node c.args.index (known_since K node c.args.index c.requires.within) in
     let size = ap length same in
-    let literal-is = c.put-in-literal.ensures ∙ ap f (c.pattern-literal.ensures ∙ ap (λ p. get_or p c.loop-place.place past_end) (sym same)) in (
-      step_count f pattern c.args.out.now c.loop-place.out c.loop-place.place c.loop-place.count c.put-in-literal.result (omega arith) c.loop-place.invariant.0 c.loop-place.invariant.1 literal-is c.insert-count.result c.insert-count.ensures.count,
-      step_buffer f pattern c.args.out.now c.loop-place.out c.loop-place.place c.loop-place.count c.put-in-literal.result (omega arith) c.loop-place.invariant.0 c.loop-place.invariant.1 literal-is c.insert-count.new.clause c.insert-count.ensures.buffer,
+    let literal-is = c.put_in-literal.ensures ∙ ap f (c.pattern_literal.ensures ∙ ap (λ p. get_or p c.loop-place.place past_end) (sym same)) in (
+      step_count f pattern c.args.out.now c.loop-place.out c.loop-place.place c.loop-place.count c.put_in-literal.result (omega arith) c.loop-place.invariant.0 c.loop-place.invariant.1 literal-is c.insert-count.result c.insert-count.ensures.count,
+      step_buffer f pattern c.args.out.now c.loop-place.out c.loop-place.place c.loop-place.count c.put_in-literal.result (omega arith) c.loop-place.invariant.0 c.loop-place.invariant.1 literal-is c.insert-count.new.clause c.insert-count.ensures.buffer,
     )
 
-pub slice-bounds-kept-length-end : goal.slice-bounds-kept-length-end
-slice-bounds-kept-length-end g c =
+pub slice_bounds-kept_length-end : goal.slice_bounds-kept_length-end
+slice_bounds-kept_length-end g c =
     let K = g.G.GateKind.kind in
     let node = node_of c.args.node.now in
     let pattern = get_or (node_patterns K node) c.args.index [] in

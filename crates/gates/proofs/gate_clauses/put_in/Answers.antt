@@ -17,9 +17,9 @@ operand-signal z m i operands s e l t =
 pub returns : goal.returns
 returns c =
     let node = c.args.node.now in
-    let negated = c.args.slot-literal.negated in
+    let negated = c.args.slot_literal.negated in
     c.literal_of.ensures
-    ∙ elim c.match-slot-literal.branch [
-      | in-Operand w ↦ ap (λ s. literal_of s negated) (w.signal_is ∙ operand-signal c.args.output node.count w.in-Operand.i node.operands c.args.slot-literal.slot w.in-Operand.is (omega arith) c.requires)
+    ∙ elim c.match-slot_literal.branch [
+      | in-Operand w ↦ ap (λ s. literal_of s negated) (w.signal_is ∙ operand-signal c.args.output node.count w.in-Operand.i node.operands c.args.slot_literal.slot w.in-Operand.is (omega arith) c.requires)
       | in-Output w ↦ ap (λ s. literal_of s negated) (w.signal_is ∙ sym (ap (slot_signal c.args.output _) w.in-Output.is))
     ]

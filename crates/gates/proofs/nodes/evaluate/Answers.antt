@@ -8,7 +8,7 @@ loop-node-preserved g c =
     let inv = c.loop-node.invariant in (
       omega arith,
       length-set _ _ _ ∙ inv.1,
-      values_more K c.args.nodes.now c.loop-node.at c.loop-node.node-index c.node-item.result c.loop-node-test.true c.node-item.is c.loop-node.values _ (omega arith) c.node-value-value.ensures ∙ inv.2,
+      values_more K c.args.nodes.now c.loop-node.at c.loop-node.node-index c.node-item.result c.loop-node-test.true c.node-item.is c.loop-node.values _ (omega arith) c.node_value-value.ensures ∙ inv.2,
     )
 
 pub returns : goal.returns

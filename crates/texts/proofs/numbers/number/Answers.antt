@@ -38,8 +38,8 @@ loop-byte-preserved c =
     let p : 10 ^ (c.loop-byte.byte-index + 1) ≡ 10 ^ c.loop-byte.byte-index * 10 = rw (add-one, pow-suc) refl in
     (omega arith, digits_more 10 _ _ c.loop-byte-test.true c.loop-byte.invariant.1 (omega arith), omega arith)
 
-pub returns-then-value-gt-MAX-NUMBER : goal.returns-then-value-gt-MAX-NUMBER
-returns-then-value-gt-MAX-NUMBER c =
+pub returns-then-value-gt-MAX_NUMBER : goal.returns-then-value-gt-MAX_NUMBER
+returns-then-value-gt-MAX_NUMBER c =
     let none : (v : ℕ) → v ≤ max_number → c.args.field.now ≡ decimal v → ⊥ =
     λ v small e.
     let s = spelling _ v small e in

@@ -5,13 +5,13 @@ use Rattle.books.specs.Chained.{unused_cell}
 use Rattle.books.proofs.ChainedHeads.{unwritten}
 use Rattle.books.proofs.chained.ChainedBook.new.Goals as goal
 
-pub invariant-of-result : goal.invariant-of-result
-invariant-of-result c =
-    let heads = c.in-Ok-with-capacity.ensures.made in
+pub invariant_of-result : goal.invariant_of-result
+invariant_of-result c =
+    let heads = c.in-Ok-with_capacity.ensures.made in
     let u = unwritten _ _ c.args.cells c.in-Ok.ensures heads.0 in
     let size = u.size in
     (u.sound, (u.short, ((u.spare, omega arith), ((omega arith, omega arith, omega arith), tt))))
 
 pub returns : goal.returns
 unfolding empty
-returns c = (omega arith, omega arith, rw (c.in-Ok-with-capacity.ensures.made.0, c.in-Ok.ensures, length-map-range_with_len unused_cell 0 c.args.cells))
+returns c = (omega arith, omega arith, rw (c.in-Ok-with_capacity.ensures.made.0, c.in-Ok.ensures, length-map-range_with_len unused_cell 0 c.args.cells))

@@ -4,47 +4,47 @@ use Rattle.books.specs.Promise.{strike_answer}
 use Rattle.books.specs.Chained.{cells_of, chain}
 use Rattle.books.proofs.ChainedBooks.{Found, found, missing, struck-left, struck_means}
 use Rattle.books.proofs.chained.ChainedBookClauseBook.strike.Goals as goal
-use Rattle.books.proofs.chained.ChainedBookClauseBook.strike.Goals.{In-ok-first, at·chain-length-length-requires, at·give-back-self-requires, at·add-self, at·index-mut-requires, at·ghost-self, at·returns}
+use Rattle.books.proofs.chained.ChainedBookClauseBook.strike.Goals.{In_ok-first, at·chain_length-length-requires, at·give_back-self-requires, at·add-self, at·index_mut-requires, at·ghost-self, at·returns}
 
-at : (c : goal.In-ok-first) → Found c.args.self.now c.args.number c.in-ok-first.first
-at c = found c.args.self.now c.args.number c.in-ok-first.first c.in-ok-first.ensures
+at : (c : goal.In_ok-first) → Found c.args.self.now c.args.number c.in_ok-first.first
+at c = found c.args.self.now c.args.number c.in_ok-first.first c.in_ok-first.ensures
 
-pub returns-in-err-first : goal.returns-in-err-first
-returns-in-err-first c = let m = missing c.args.self.now c.args.number _ c.in-err-first.ensures in search rules
+pub returns-in_err-first : goal.returns-in_err-first
+returns-in_err-first c = let m = missing c.args.self.now c.args.number _ c.in_err-first.ensures in search rules
 
-pub chain-length-length-requires : goal.chain-length-length-requires
-chain-length-length-requires c = record { ends = (at (goal.at.chain-length-length-requires c).In-ok-first).goes; small = c.args.self.now.keeps.1 }
+pub chain_length-length-requires : goal.chain_length-length-requires
+chain_length-length-requires c = record { ends = (at (goal.at.chain_length-length-requires c).In_ok-first).goes; small = c.args.self.now.keeps.1 }
 
-pub give-back-self-requires : goal.give-back-self-requires
-give-back-self-requires c =
-    let f = at (goal.at.give-back-self-requires c).In-ok-first in
+pub give_back-self-requires : goal.give_back-self-requires
+give_back-self-requires c =
+    let f = at (goal.at.give_back-self-requires c).In_ok-first in
     record { first = f.goes; free = c.args.self.now.sound.0 0; room = f.apart_free.room; once = f.apart_free.once }
 
-pub overflow-add-self : goal.overflow-add-self
-overflow-add-self c =
+pub overflow_add-self : goal.overflow_add-self
+overflow_add-self c =
     let b = c.args.self.now in
-    let f = at (goal.at.overflow-add-self c).In-ok-first in
+    let f = at (goal.at.overflow_add-self c).In_ok-first in
     let cs = cells_of b.table in
-    omega (arith, f.apart_free.room, length-append (chain cs c.in-ok-first.first) (chain cs b.free))
+    omega (arith, f.apart_free.room, length-append (chain cs c.in_ok-first.first) (chain cs b.free))
 
-pub index-mut-requires : goal.index-mut-requires
-index-mut-requires c = let f = at (goal.at.index-mut-requires c).In-ok-first in omega (arith, f.counted, f.within)
+pub index_mut-requires : goal.index_mut-requires
+index_mut-requires c = let f = at (goal.at.index_mut-requires c).In_ok-first in omega (arith, f.counted, f.within)
 
-pub invariant-of-self : goal.invariant-of-self
-invariant-of-self c =
+pub invariant_of-self : goal.invariant_of-self
+invariant_of-self c =
     let b = c.args.self.now in
-    let f = at (goal.at.invariant-of-self c).In-ok-first in
-    let l = struck-left b c.args.number c.in-ok-first.first f (cells_of c.give-back-self.new.table) c.give-back-self.result c.give-back-self.ensures in
-    let size = c.give-back-self.ensures.size in
+    let f = at (goal.at.invariant_of-self c).In_ok-first in
+    let l = struck-left b c.args.number c.in_ok-first.first f (cells_of c.give_back-self.new.table) c.give_back-self.result c.give_back-self.ensures in
+    let size = c.give_back-self.ensures.size in
     let spare = l.spare in
     (l.sound, (l.short, ((omega arith, omega arith), ((omega arith, omega arith, omega arith), tt))))
 
 pub returns : goal.returns
 returns c =
     let b = c.args.self.now in
-    let f = at (goal.at.returns c).In-ok-first in
-    let l = struck-left b c.args.number c.in-ok-first.first f (cells_of c.give-back-self.new.table) c.give-back-self.result c.give-back-self.ensures in
+    let f = at (goal.at.returns c).In_ok-first in
+    let l = struck-left b c.args.number c.in_ok-first.first f (cells_of c.give_back-self.new.table) c.give_back-self.result c.give_back-self.ensures in
     record {
       answer = sym (ap strike_answer f.clause);
-      after = struck_means b c.args.number c.in-ok-first.first f (cells_of c.give-back-self.new.table) c.give-back-self.result _ c.give-back-self.ensures.size l;
+      after = struck_means b c.args.number c.in_ok-first.first f (cells_of c.give_back-self.new.table) c.give_back-self.result _ c.give_back-self.ensures.size l;
     }

@@ -5,24 +5,24 @@ use Rattle.books.proofs.ChainedHeads.{free_once}
 use Rattle.books.proofs.ChainedBooks.{meaning_of, given_is, free_numbers_is, free_cells_is, written-left, written_means}
 use Rattle.books.proofs.chained.ChainedBookClauseBook.write.Goals as goal
 
-pub take-cells-fronts-requires : goal.take-cells-fronts-requires
-take-cells-fronts-requires c =
+pub take_cells-fronts-requires : goal.take_cells-fronts-requires
+take_cells-fronts-requires c =
     let b = c.args.self.now in
     let spare = b.keeps.0 in
     record { free = b.sound.0 0; once = free_once (cells_of b.table) (vec_items b.heads) b.free b.sound; enough = omega (arith, free_cells_is b) }
 
-pub push-reserved-requires : goal.push-reserved-requires
-push-reserved-requires c = omega (arith, free_numbers_is c.args.self.now)
+pub push_reserved-requires : goal.push_reserved-requires
+push_reserved-requires c = omega (arith, free_numbers_is c.args.self.now)
 
-pub overflow-sub-self : goal.overflow-sub-self
-overflow-sub-self c = omega (arith, free_cells_is c.args.self.now)
+pub overflow_sub-self : goal.overflow_sub-self
+overflow_sub-self c = omega (arith, free_cells_is c.args.self.now)
 
-pub invariant-of-self : goal.invariant-of-self
-invariant-of-self c =
+pub invariant_of-self : goal.invariant_of-self
+invariant_of-self c =
     let b = c.args.self.now in
     let n = free_numbers_is b in
-    let t = c.take-cells-fronts.ensures in
-    let l = written-left b c.args.literals.now _ _ _ _ t.parted t.holds (omega arith) c.push-reserved.ensures.items in
+    let t = c.take_cells-fronts.ensures in
+    let l = written-left b c.args.literals.now _ _ _ _ t.parted t.holds (omega arith) c.push_reserved.ensures.items in
     let size = t.parted.size in
     let spare = l.spare in
     (l.sound, (l.short, ((omega arith, omega arith), ((omega arith, omega arith, omega arith), tt))))
@@ -30,8 +30,8 @@ invariant-of-self c =
 pub returns : goal.returns
 returns c =
     let b = c.args.self.now in
-    let t = c.take-cells-fronts.ensures in
-    let l = written-left b c.args.literals.now _ _ _ _ t.parted t.holds (omega arith) c.push-reserved.ensures.items in
+    let t = c.take_cells-fronts.ensures in
+    let l = written-left b c.args.literals.now _ _ _ _ t.parted t.holds (omega arith) c.push_reserved.ensures.items in
     record {
       answer = ap Ok (omega (arith, given_is b)) ∙ sym (write_granted (meaning_of b) c.args.literals.now (omega arith) (omega arith) (omega arith));
       after = written_means b c.args.literals.now _ _ _ _ t.parted.size l;

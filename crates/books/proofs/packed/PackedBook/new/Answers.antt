@@ -4,4 +4,4 @@ use Rattle.books.proofs.packed.PackedBook.new.Goals as goal
 
 pub returns : goal.returns
 unfolding empty
-returns c = (omega arith, omega arith, rw c.in-Ok-with-capacity.ensures.items)
+returns c = (omega arith, omega arith, rw c.in-Ok-with_capacity.ensures.items)

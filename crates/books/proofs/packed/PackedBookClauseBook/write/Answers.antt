@@ -7,15 +7,15 @@ use Rattle.books.proofs.packed.PackedBookClauseBook.write.Goals as goal
 pub append-requires : goal.append-requires
 append-requires c = omega (arith, free_cells_is c.args.self.now)
 
-pub push-reserved-requires : goal.push-reserved-requires
-push-reserved-requires c = omega (arith, free_numbers_is c.args.self.now)
+pub push_reserved-requires : goal.push_reserved-requires
+push_reserved-requires c = omega (arith, free_numbers_is c.args.self.now)
 
-pub invariant-of-self : goal.invariant-of-self
-invariant-of-self c =
+pub invariant_of-self : goal.invariant_of-self
+invariant_of-self c =
     let b = c.args.self.now in
     let n = free_numbers_is b in
     let l = free_cells_is b in
-    let lays = written_laid b c.args.literals.now _ _ _ _ c.append.ensures.items c.push-reserved.ensures.items (omega arith) (omega arith) in (
+    let lays = written_laid b c.args.literals.now _ _ _ _ c.append.ensures.items c.push_reserved.ensures.items (omega arith) (omega arith) in (
       laid_out _ _ _ lays (short_push (meaning_of b).slots c.args.literals.now b.laid.1 (omega arith)),
       ((omega arith, omega arith, omega arith), ((omega arith, omega arith, omega arith), tt)),
     )
@@ -23,7 +23,7 @@ invariant-of-self c =
 pub returns : goal.returns
 returns c =
     let b = c.args.self.now in
-    let lays = written_laid b c.args.literals.now _ _ _ _ c.append.ensures.items c.push-reserved.ensures.items (omega arith) (omega arith) in
+    let lays = written_laid b c.args.literals.now _ _ _ _ c.append.ensures.items c.push_reserved.ensures.items (omega arith) (omega arith) in
     record {
       answer = ap Ok (omega (arith, given_is b)) ∙ sym (write_granted (meaning_of b) c.args.literals.now (omega arith) (omega arith) (omega arith));
       after = written_means b c.args.literals.now _ _ lays;

@@ -10,4 +10,4 @@ kept : (c : ℕ) (xs ys zs : List ℕ) → ys ≡ xs → node c (take (length xs
 kept c xs ys zs e = ap (node c) (take_at ys zs (length xs) (ap length e) ∙ e)
 
 pub returns : goal.returns
-returns c = kept c.args.code c.args.operands.now c.copy-from-slice.new.self _ c.copy-from-slice.ensures.after
+returns c = kept c.args.code c.args.operands.now c.copy_from_slice.new.self _ c.copy_from_slice.ensures.after

@@ -2,13 +2,13 @@ use Rattle.std.proofs.Common.{arith}
 use Rattle.gates.proofs.TwoTable.{row_within, size, size_fits}
 use Rattle.gates.proofs.two_input.TwoInputGateKind.pattern_size.Goals as goal
 
-pub bounds-table-patterns-index : goal.bounds-table-patterns-index
-bounds-table-patterns-index c =
-    row_within c.args.code c.requires.known c.table-patterns.result.now c.table-patterns.ensures c.args.index c.requires.within
+pub bounds-table_patterns-index : goal.bounds-table_patterns-index
+bounds-table_patterns-index c =
+    row_within c.args.code c.requires.known c.table_patterns.result.now c.table_patterns.ensures c.args.index c.requires.within
 
-pub overflow-cast-result-2 : goal.overflow-cast-result-2
-overflow-cast-result-2 c =
-    omega (arith, size_fits c.args.code c.requires.known c.table-patterns.result.now c.table-patterns.ensures c.args.index c.requires.within)
+pub overflow_cast-result-2 : goal.overflow_cast-result-2
+overflow_cast-result-2 c =
+    omega (arith, size_fits c.args.code c.requires.known c.table_patterns.result.now c.table_patterns.ensures c.args.index c.requires.within)
 
 pub returns : goal.returns
-returns c = size c.args.code c.requires.known c.table-patterns.result.now c.table-patterns.ensures c.args.index c.requires.within
+returns c = size c.args.code c.requires.known c.table_patterns.result.now c.table_patterns.ensures c.args.index c.requires.within

@@ -3,8 +3,8 @@ use Rattle.gates.specs.Kinds.{inverted}
 use Rattle.gates.proofs.WideLiterals.{index_within, place_inside, inverted_is}
 use Rattle.gates.proofs.wide.WideGateKind.pattern_literal.Goals as goal
 
-pub plain-literal-literal-requires : goal.plain-literal-literal-requires
-plain-literal-literal-requires c = record {
+pub plain_literal-literal-requires : goal.plain_literal-literal-requires
+plain_literal-literal-requires c = record {
   within = index_within c.args.code c.args.index c.args.place c.requires.within c.requires.inside c.of-function.result c.disjunctive.result c.of-function.ensures c.disjunctive.ensures;
   inside = place_inside c.args.code c.args.index c.args.place c.requires.within c.requires.inside c.of-function.result c.disjunctive.result c.of-function.ensures c.disjunctive.ensures;
 }
@@ -12,5 +12,5 @@ plain-literal-literal-requires c = record {
 pub returns-then-inverting : goal.returns-then-inverting
 returns-then-inverting c =
     c.inverted.ensures
-    ∙ ap inverted c.plain-literal-literal.ensures
+    ∙ ap inverted c.plain_literal-literal.ensures
     ∙ inverted_is c.args.code c.args.index c.args.place c.requires.within c.requires.inside c.of-function.result c.disjunctive.result c.of-function.ensures c.disjunctive.ensures c.if-inverting.ensures

@@ -5,5 +5,5 @@ use Rattle.texts.proofs.lines.fields.lone_field.Goals as goal
 
 pub returns-then-field-eq0 : goal.returns-then-field-eq0
 returns-then-field-eq0 c =
-    let s : c.next-field.result ≡ Some c.in-ok-field.field = let h = c.in-ok-field.ensures in grind arith in
-    (refl, lone-empty _ _ _ (handed _ _ _ _ s c.next-field.ensures) c.in-ok-no-more.ensures c.if-field-eq0.true)
+    let s : c.next_field.result ≡ Some c.in_ok-field.field = let h = c.in_ok-field.ensures in grind arith in
+    (refl, lone-empty _ _ _ (handed _ _ _ _ s c.next_field.ensures) c.in_ok-no_more.ensures c.if-field-eq0.true)

@@ -5,10 +5,10 @@ use Rattle.texts.specs.Readers.{rest_of}
 use Rattle.texts.proofs.LineNumbers.{not-lone}
 use Rattle.texts.proofs.lines.fields.lone_number.Goals as goal
 
-pub returns-in-err-no-more : goal.returns-in-err-no-more
-returns-in-err-no-more c =
-    let p = err_from_is_err_and c.from-residual-in-err-no-more.result c.from-residual-in-err-no-more.ensures.1 in
-    let h = c.in-err-no-more.ensures in
+pub returns-in_err-no_more : goal.returns-in_err-no_more
+returns-in_err-no_more c =
+    let p = err_from_is_err_and c.from_residual-in_err-no_more.result c.from_residual-in_err-no_more.ensures.1 in
+    let h = c.in_err-no_more.ensures in
     let fs = fields_behind (rest_of c.args.reader.now) in
     let gs = fields_behind (rest_of c.next_number.new.reader) in
-    rw (p.1, p.2) (h.0, λ w e. not-lone fs gs c.in-ok-value.value w h.1 c.in-ok-value.ensures e)
+    rw (p.1, p.2) (h.0, λ w e. not-lone fs gs c.in_ok-value.value w h.1 c.in_ok-value.ensures e)

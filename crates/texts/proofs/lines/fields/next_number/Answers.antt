@@ -6,5 +6,5 @@ use Rattle.texts.proofs.lines.fields.next_number.Goals as goal
 
 pub returns : goal.returns
 returns c =
-    let s : c.next-field.result ≡ Some c.in-ok-field.field = let h = c.in-ok-field.ensures in grind arith in
-    next_number _ _ _ _ (handed _ _ _ _ s c.next-field.ensures) c.number.ensures.answer
+    let s : c.next_field.result ≡ Some c.in_ok-field.field = let h = c.in_ok-field.ensures in grind arith in
+    next_number _ _ _ _ (handed _ _ _ _ s c.next_field.ensures) c.number.ensures.answer

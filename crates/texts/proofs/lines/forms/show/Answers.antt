@@ -6,9 +6,9 @@ use Rattle.texts.proofs.lines.forms.show.Goals.{else-digit-ne48-via-then-digit-n
 
 pub returns-then-digit-ne49 : goal.returns-then-digit-ne49
 returns-then-digit-ne49 c =
-    let h = c.in-ok-digits.ensures in
+    let h = c.in_ok-digits.ensures in
     let b = bits_not _ _ c.loop-digit-test.true c.if-digit-ne48.true c.if-digit-ne49.true c.loop-digit.invariant in
-    rw h.0 (sym (not_shown c.in-ok-digits.digits.now b))
+    rw h.0 (sym (not_shown c.in_ok-digits.digits.now b))
 
 pub loop-digit-preserved : goal.loop-digit-preserved
 loop-digit-preserved c =
@@ -19,5 +19,5 @@ loop-digit-preserved c =
 
 pub returns : goal.returns
 returns c =
-    let h = c.in-ok-digits.ensures in
+    let h = c.in_ok-digits.ensures in
     rw h.0 (sym (shown _ h.1 (bits_all _ _ c.loop-digit-test.false c.loop-digit.invariant)))
