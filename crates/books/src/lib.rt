@@ -1,5 +1,6 @@
 // Clause books: what every book promises, the two books that keep it, and reading a clause out of any of them.
 #![tactic(auto)]
+
 mod cells;
 pub mod chained;
 pub mod clause_book;

@@ -1,5 +1,6 @@
 // Gate kinds and their law, the value of nodes, and the clauses of a gate.
 #![tactic(auto)]
+
 pub mod gate_clauses;
 pub mod kinds;
 pub mod nodes;

@@ -1,5 +1,6 @@
 // Texts: a reader that goes through one with its place, numbers in decimal, and the lines of a text with their form.
 #![tactic(auto)]
+
 pub mod lines;
 pub mod numbers;
 pub mod reader;
