@@ -1,5 +1,5 @@
 -- An instance of a pattern holds where the pattern does.
-use Rattle.std.proofs.Common.{◌≡◌, ℕ, Bool, true, false, cond, not, ◌||◌, T, ltb, List, [], ◌∷◌, map, length, sym, refl, ap, ◌∙◌, ap₂, inl, inr, arith, ltb→lt}
+use Rattle.std.proofs.Common.{◌≡◌, ℕ, Bool, true, false, cond, not, ◌||◌, T, List, [], ◌∷◌, map, length, sym, refl, ap, ◌∙◌, ap₂, inl, inr, arith, ltb→lt}
 use Rattle.std.proofs.lemmas.List.{get_or-map}
 use Rattle.clauses.specs.Literals.{literal_of, flip, literal_value}
 use Rattle.clauses.specs.Clauses.{holds, Member, member}

@@ -1,5 +1,5 @@
 -- An instance that is kept is a clause in its kept form, and short.
-use Rattle.std.proofs.Common.{◌≡◌, ℕ, ◌<◌, ◌≤◌, Bool, true, false, not, ◌||◌, T, ltb, ◌⊎◌, List, [], ◌∷◌, map, length, get_or, sym, refl, subst, inl, inr, arith, ltb→lt}
+use Rattle.std.proofs.Common.{◌≡◌, ℕ, ◌<◌, ◌≤◌, Bool, true, false, not, ◌||◌, T, ◌⊎◌, List, [], ◌∷◌, map, length, get_or, sym, refl, subst, inl, inr, arith, ltb→lt}
 use Rattle.std.specs.List.{AllByRecursion as All}
 use Rattle.std.proofs.lemmas.List.{length-map}
 use Rattle.clauses.specs.Literals.{signal, literal_of, flip}

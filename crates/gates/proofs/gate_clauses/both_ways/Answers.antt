@@ -7,14 +7,14 @@ pub returns-then-contains : goal.returns-then-contains
 returns-then-contains c =
     let clause = c.args.clause.now in
     let i = c.loop-literal.literal-index in
-    let m = sym (ap (λ l. member l clause) c.flip.ensures) ∙ contains_member c.flip.result clause c.contains.result c.contains.ensures.cases ∙ c.if-contains.true in
+    let m = sym (ap (λ l. member l clause) c.flip.ensures) ∙ sym (contains_member c.flip.result clause) ∙ sym c.contains.ensures.value ∙ c.if-contains.true in
     sym (c.loop-literal.invariant ∙ opposed_next clause i _ c.loop-literal-test.true m)
 
 pub loop-literal-preserved : goal.loop-literal-preserved
 loop-literal-preserved c =
     let clause = c.args.clause.now in
     let i = c.loop-literal.literal-index in
-    let m = sym (ap (λ l. member l clause) c.flip.ensures) ∙ contains_member c.flip.result clause c.contains.result c.contains.ensures.cases ∙ c.if-contains.false in
+    let m = sym (ap (λ l. member l clause) c.flip.ensures) ∙ sym (contains_member c.flip.result clause) ∙ sym c.contains.ensures.value ∙ c.if-contains.false in
     c.loop-literal.invariant ∙ opposed_next clause i _ c.loop-literal-test.true m
 
 pub returns : goal.returns

@@ -1,4 +1,4 @@
-use Rattle.std.proofs.Common.{◌≡◌, ℕ, ◌<◌, ◌≤◌, T, ltb, List, length, get_or, take, sym, ap, ◌∙◌, subst, arith, ltb→lt}
+use Rattle.std.proofs.Common.{◌≡◌, ℕ, ◌<◌, ◌≤◌, T, List, length, get_or, take, sym, ap, ◌∙◌, subst, arith, ltb→lt}
 use Rattle.std.proofs.lemmas.List.{get_or-take, length-take-le}
 use Rattle.clauses.specs.Literals.{literal_of}
 use Rattle.gates.specs.declared.kinds.Slot.{Slot}
@@ -20,6 +20,6 @@ returns c =
     let negated = c.args.slot_literal.negated in
     c.literal_of.ensures
     ∙ elim c.match-slot_literal.branch [
-      | in-Operand w ↦ ap (λ s. literal_of s negated) (w.signal_is ∙ operand-signal c.args.output node.count w.in-Operand.i node.operands c.args.slot_literal.slot w.in-Operand.is (omega arith) c.requires)
-      | in-Output w ↦ ap (λ s. literal_of s negated) (w.signal_is ∙ sym (ap (slot_signal c.args.output _) w.in-Output.is))
+      | in-Operand w ↦ ap (λ s. literal_of s negated) (w.signal-is ∙ operand-signal c.args.output node.count w.in-Operand.i node.operands c.args.slot_literal.slot w.in-Operand.is (omega arith) c.requires)
+      | in-Output w ↦ ap (λ s. literal_of s negated) (w.signal-is ∙ sym (ap (slot_signal c.args.output _) w.in-Output.is))
     ]
