@@ -13,10 +13,13 @@ import re
 import sys
 
 PART = r"[A-Za-zμ_][\w'ℕ]*"
-NAME = re.compile(PART + r"(?:-[\w'ℕ]+)+")
+NAME = re.compile(PART + r"(?:-[\w'ℕ]+)+|\bLaid_out\b")
 HEAD = re.compile(r"^(\s*)((?:(?:abbrev|unfoldable|pub|data|record|axiom|package)\s+)*)(" + PART + r"(?:-[\w'ℕ]+)*(?:\s+" + PART + r"(?:-[\w'ℕ]+)*)*)\s*((?:\{[^}]*\}|\([^)]*\))\s*)*:(?!=)")
+RECORD = re.compile(r"^\s*(?:pub\s+)?(?:record|data)\s+(" + PART + r"(?:-[\w'ℕ]+)*)")
 # where the plain respelling is a variant's name already
 OTHERS = {"Cannot-run": "CannotBeRun"}
+# a fact that the kit's script spelled as a function
+FACTS = {"Laid_out": "LaidOut"}
 # functions of std that lemmas here speak of
 STD = {"length", "append", "take", "drop", "map", "set", "not", "get_or", "sum"}
 CODE = re.compile(r'"(?:[^"\\\n]|\\.)*"|--[^\n]*|//[^\n]*|`[^`\n]*`|' + NAME.pattern + r"|.", re.S)
@@ -44,6 +47,10 @@ def declared(root):
         if not p.endswith(".antt"):
             continue
         for line in read(p).split("\n"):
+            r = RECORD.match(line)
+            if r:
+                own.add(r.group(1))
+                continue
             m = HEAD.match(line)
             if not m:
                 continue
@@ -104,7 +111,7 @@ def main():
     root = os.getcwd()
     own, spec, made = declared(root)
     names = {n: respelled(n, spec) for n in own if "-" in n}
-    names = {a: b for a, b in names.items() if a != b}
+    names = {a: b for a, b in names.items() if a != b} | FACTS
     taken = {}
     for a, b in sorted(names.items()):
         taken.setdefault(b, []).append(a)

@@ -9,8 +9,8 @@ use Rattle.clauses.specs.Limits.{max_literals}
 use Rattle.books.specs.declared.cells.Cell.{Cell}
 use Rattle.books.specs.declared.chained.ChainedBook.{ChainedBook}
 use Rattle.books.specs.Book.{Book, slot_size, given, clause_at, standing_literals, free_numbers, free_cells, written, struck}
-use Rattle.books.specs.Promise.{literal_answer}
-use Rattle.books.specs.Chained.{cells_of, cell_at, chain, ends, literals_in, chained, head_at, Parted}
+use Rattle.books.specs.Promise.{Sized, literal_answer, max_numbers, max_cells}
+use Rattle.books.specs.Chained.{cells_of, cell_at, chain, ends, literals_in, chained, head_at, Sound, Short, Parted}
 use Rattle.books.proofs.BookLaws.{clause_at_zero, clause_at_suc}
 use Rattle.books.proofs.ChainedLinks.{chain-at}
 use Rattle.books.proofs.ChainedHeads.{get_or_map_any, front_within, slot_row, cells-shared, Apart, apart, Left, writing, striking}
@@ -24,6 +24,28 @@ clause_held cs hs t k = ap (λ o. cond (eqb k 0) None o) (get_or_map_any (option
     inside : (b : Bool) (o : Option ℕ) → cond b None (option_map (literals_in cs) o) ≡ option_map (literals_in cs) (cond b None o)
     inside true o = refl
     inside false o = refl
+
+-- a book of sound and short chains keeps within its sizes
+module _ (cs : List Cell) (hs : List (Option ℕ)) (t free : ℕ) (sound : Sound cs (Some free ∷ hs)) (short : Short cs hs) where
+  standing_few : standing_literals (chained cs hs t) ≤ length cs
+  unfolding standing_literals
+  standing_few = omega (arith, cells-shared cs hs free sound)
+
+  short_clause : (k : ℕ) (c : List ℕ) → clause_at (chained cs hs t) k ≡ Some c → length c ≤ max_literals
+  short_clause zero c e = let n = clause_at_zero (chained cs hs t) in let z : ◌≡◌ {A = ℕ} 0 1 = cc in absurd (omega arith)
+  short_clause (suc i) c e =
+      let held = ap slot_size (sym (get_or_map_any (option_map (literals_in cs)) hs i None) ∙ sym (clause_at_suc (chained cs hs t) i) ∙ e) in
+      omega (arith, short i, slot_row cs (get_or hs i None))
+
+  pub sized : length cs ≤ max_cells → length hs ≤ t → t ≤ max_numbers → Sized (chained cs hs t)
+  unfolding given
+  sized cells numbers most = record {
+    few_numbers = omega arith;
+    few_cells = omega arith;
+    given_within = omega (arith, length-map hs (option_map (literals_in cs)));
+    standing_within = standing_few;
+    short = short_clause;
+  }
 
 module _ (b : ChainedBook) where
   abbrev pub meaning_of : Book
@@ -44,14 +66,6 @@ module _ (b : ChainedBook) where
   pub free_cells_is : free_cells meaning_of ≡ b.spare
   unfolding standing_literals free_cells
   free_cells_is = omega (arith, standing_is)
-
-  -- no clause is too long
-  pub short_clause : (k : ℕ) (c : List ℕ) → clause_at meaning_of k ≡ Some c → length c ≤ max_literals
-  short_clause zero c e = let n = clause_at_zero meaning_of in let z : ◌≡◌ {A = ℕ} 0 1 = cc in absurd (omega arith)
-  short_clause (suc i) c e =
-      let cs = cells_of b.table in
-      let held = ap slot_size (sym (get_or_map_any (option_map (literals_in cs)) (vec_items b.heads) i None) ∙ sym (clause_at_suc meaning_of i) ∙ e) in
-      omega (arith, b.short i, slot_row cs (get_or (vec_items b.heads) i None))
 
 -- a number whose clause stands, and the first cell of the clause
 pub record Found (b : ChainedBook) (k h : ℕ) : Type 0 where

@@ -87,7 +87,7 @@ apart cs hs free k h s e = record {
 }
 
 -- the chains stay as they are where their cells do
-record Rows-kept (cs ds : List Cell) (hs : List (Option ℕ)) : Type 0 where
+record RowsKept (cs ds : List Cell) (hs : List (Option ℕ)) : Type 0 where
   ends_still : (k : ℕ) → row_ends ds (get_or hs k None) ≡ true
   is : map (row ds) hs ≡ map (row cs) hs
   reads : map (option_map (literals_in ds)) hs ≡ map (option_map (literals_in cs)) hs
@@ -98,7 +98,7 @@ row_kept cs ds None size e same = (refl, refl, refl)
 row_kept cs ds (Some h) size e same = let k = chain-kept cs ds h size same e in (k.ends_still, k.is, ap Some k.reads)
 
 rows_kept : (cs ds : List Cell) (hs : List (Option ℕ)) → length ds ≡ length cs → ((k : ℕ) → row_ends cs (get_or hs k None) ≡ true)
-    → ((i : ℕ) → 0 < i → 0 < sum_by (times i) (map (row cs) hs) → cell_at ds i ≡ cell_at cs i) → Rows-kept cs ds hs
+    → ((i : ℕ) → 0 < i → 0 < sum_by (times i) (map (row cs) hs) → cell_at ds i ≡ cell_at cs i) → RowsKept cs ds hs
 rows_kept cs ds [] size e same = record { ends_still = λ k. refl; is = refl; reads = refl }
 rows_kept cs ds (o ∷ hs) size e same =
     let k = row_kept cs ds o size (e 0) (λ i pos n. same i pos (omega (arith, sum_by-cons (times i) (row cs o) (map (row cs) hs)))) in
@@ -109,7 +109,7 @@ rows_kept cs ds (o ∷ hs) size e same =
       reads = ap₂ ◌∷◌ k.2 r.reads;
     }
 
-short-kept : (cs ds : List Cell) (hs : List (Option ℕ)) → Rows-kept cs ds hs → Short cs hs → Short ds hs
+short-kept : (cs ds : List Cell) (hs : List (Option ℕ)) → RowsKept cs ds hs → Short cs hs → Short ds hs
 short-kept cs ds hs r s k =
     let same = ap length (sym (get_or_map_any (row ds) hs k None) ∙ ap (λ is. get_or is k []) r.is ∙ get_or_map_any (row cs) hs k None) in
     let most = s k in

@@ -8,7 +8,8 @@ use Rattle.clauses.specs.Limits.{max_literals}
 use Rattle.books.specs.declared.spans.Span.{Span}
 use Rattle.books.specs.declared.packed.PackedBook.{PackedBook}
 use Rattle.books.specs.Book.{Book, slot_size, given, clause_at, standing_literals, free_numbers, free_cells, written, struck}
-use Rattle.books.specs.Packed.{covered, packed, span_at, span_of, Lays, without, cleared}
+use Rattle.books.specs.Promise.{Sized, max_numbers, max_cells}
+use Rattle.books.specs.Packed.{covered, slots_in, packed, span_at, span_of, Lays, LaidOut, without, cleared}
 use Rattle.books.proofs.BookLaws.{clause_at_zero, clause_at_suc}
 use Rattle.books.proofs.PackedLayout.{length-end_to_end, slots_laid}
 use Rattle.books.proofs.PackedSpans.{slot_covered, Placed, placed, written_lays, struck_lays}
@@ -22,6 +23,22 @@ clause_covered ls ss t l k = ap (λ o. cond (eqb k 0) None o) (slot_covered ls s
     inside : (b : Bool) (o : Option Span) → cond b None (option_map (covered ls) o) ≡ option_map (covered ls) (cond b None o)
     inside true o = refl
     inside false o = refl
+
+-- a book whose clauses lie end to end keeps within its sizes
+module _ (ls : List ℕ) (ss : List (Option Span)) (t l : ℕ) (laid : LaidOut ls ss) where
+  short_clause : (k : ℕ) (c : List ℕ) → clause_at (packed ls ss t l) k ≡ Some c → length c ≤ max_literals
+  short_clause zero c e = let n = clause_at_zero (packed ls ss t l) in let z : ◌≡◌ {A = ℕ} 0 1 = cc in absurd (omega arith)
+  short_clause (suc i) c e = omega (arith, laid.1 i, ap slot_size (sym (clause_at_suc (packed ls ss t l) i) ∙ e))
+
+  pub sized : length ss ≤ t → t ≤ max_numbers → length ls ≤ l → l ≤ max_cells → Sized (packed ls ss t l)
+  unfolding given standing_literals
+  sized numbers most cells room = record {
+    few_numbers = omega arith;
+    few_cells = omega arith;
+    given_within = omega (arith, length-map ss (option_map (covered ls)));
+    standing_within = omega (arith, length-end_to_end (slots_in ls ss), ap length laid.0.0);
+    short = short_clause;
+  }
 
 module _ (b : PackedBook) where
   abbrev pub meaning_of : Book
@@ -42,11 +59,6 @@ module _ (b : PackedBook) where
   pub free_cells_is : free_cells meaning_of ≡ b.cells - vec_len b.literals
   unfolding standing_literals free_cells
   free_cells_is = ap (λ n. b.cells - n) standing_is
-
-  -- no clause is too long
-  pub short_clause : (k : ℕ) (c : List ℕ) → clause_at meaning_of k ≡ Some c → length c ≤ max_literals
-  short_clause zero c e = let n = clause_at_zero meaning_of in let z : ◌≡◌ {A = ℕ} 0 1 = cc in absurd (omega arith)
-  short_clause (suc i) c e = omega (arith, b.laid.1 i, ap slot_size (sym (clause_at_suc meaning_of i) ∙ e))
 
 -- a number whose clause stands, and its span
 pub record Found (b : PackedBook) (k : ℕ) (s : Span) : Type 0 where

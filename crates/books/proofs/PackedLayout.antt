@@ -7,7 +7,7 @@ use Rattle.std.proofs.lemmas.List.Edits.{take-paste}
 use Rattle.clauses.specs.Limits.{max_literals}
 use Rattle.books.specs.declared.spans.Span.{Span}
 use Rattle.books.specs.Book.{total_size}
-use Rattle.books.specs.Packed.{slots_in, span_of, end_to_end, spans_from, Lays, Short, Laid_out, without, lowered}
+use Rattle.books.specs.Packed.{slots_in, span_of, end_to_end, spans_from, Lays, Short, LaidOut, without, lowered}
 
 -- moving the items past a gap down to its start, and cutting the rest off
 pub gap_closed : (xs ys zs : List ℕ) (i n m l : ℕ) → l ≡ length xs → m + n ≡ l → i ≤ m
@@ -81,8 +81,12 @@ slots_past front (Some c ∷ os) =
 pub slots_laid : (ls : List ℕ) (ss : List (Option Span)) (os : List (Option (List ℕ))) → Lays ls ss os → slots_in ls ss ≡ os
 slots_laid ls ss os (e, f) = rw (e, f) (slots_past [] os)
 
-pub laid_out : (ls : List ℕ) (ss : List (Option Span)) (os : List (Option (List ℕ))) → Lays ls ss os → Short os → Laid_out ls ss
+pub laid_out : (ls : List ℕ) (ss : List (Option Span)) (os : List (Option (List ℕ))) → Lays ls ss os → Short os → LaidOut ls ss
 laid_out ls ss os lays short = subst (λ ps. Lays ls ss ps × Short ps) (sym (slots_laid ls ss os lays)) (lays, short)
+
+-- no clauses at all
+pub laid_none : (ls : List ℕ) (ss : List (Option Span)) → ls ≡ [] → ss ≡ [] → LaidOut ls ss
+laid_none ls ss e f = rw (e, f) ((refl, refl), λ i. omega arith)
 
 -- no clause too long: after one more, and after one less
 pub short_push : (os : List (Option (List ℕ))) (c : List ℕ) → Short os → length c ≤ max_literals → Short (os ++ (Some c ∷ []))

@@ -4,7 +4,7 @@ use Rattle.std.specs.Option.{option_map}
 use Rattle.std.proofs.lemmas.List.{append-nil, append_assoc, take_at, drop_at, set_at, length_push, length-map, length-append, length-take-le, get_or_past, get_or_at, get_or-append_right, set-get_or, set_split}
 use Rattle.std.proofs.lemmas.Bool.{cases_lt}
 use Rattle.books.specs.declared.spans.Span.{Span}
-use Rattle.books.specs.Packed.{covered, slots_in, span_of, end_to_end, spans_from, Lays, Laid_out, without, lowered, cleared}
+use Rattle.books.specs.Packed.{covered, slots_in, span_of, end_to_end, spans_from, Lays, LaidOut, without, lowered, cleared}
 use Rattle.books.proofs.PackedLayout.{length_spans, end_to_end-append, spans_append, spans_start, lowered_spans}
 
 -- what stands is what the span covers
@@ -25,7 +25,7 @@ pub record Placed (ls : List ℕ) (ss : List (Option Span)) (i : ℕ) (s : Span)
   pub starts : s.start ≡ length (end_to_end before)
   pub long : s.length ≡ length clause
 
-pub placed : (ls : List ℕ) (ss : List (Option Span)) (i : ℕ) (s : Span) → Laid_out ls ss → get_or ss i None ≡ Some s → Placed ls ss i s
+pub placed : (ls : List ℕ) (ss : List (Option Span)) (i : ℕ) (s : Span) → LaidOut ls ss → get_or ss i None ≡ Some s → Placed ls ss i s
 placed ls ss i s ((e, f), g) h =
     let os = slots_in ls ss in
     let before = take i os in

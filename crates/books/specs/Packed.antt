@@ -46,8 +46,8 @@ abbrev pub Short : List (Option (List ℕ)) → Type 0
 Short os = (i : ℕ) → slot_size (slice_index_or os i None) ≤ max_literals
 
 -- what always holds: the clauses lie end to end, and none is too long
-abbrev pub Laid_out : List ℕ → List (Option Span) → Type 0
-Laid_out ls ss = Lays ls ss (slots_in ls ss) × Short (slots_in ls ss)
+abbrev pub LaidOut : List ℕ → List (Option Span) → Type 0
+LaidOut ls ss = Lays ls ss (slots_in ls ss) × Short (slots_in ls ss)
 
 -- the literals without the n from i on
 abbrev pub without : List ℕ → ℕ → ℕ → List ℕ

@@ -2,9 +2,8 @@
 ghost use Rattle.std.specs.Prelude.{◌≡◌, ℕ, ◌≤◌, true, ◌∷◌, ◌++◌, length, Some, vec_len, vec_capacity, slice_index};
 ghost use Rattle.std.specs.Option.{ok_or};
 ghost use Rattle.clauses.specs.declared.refusals.Refusal.TheVariants.{NoClause};
-ghost use Rattle.books.specs.Promise.{Made, max_numbers, max_cells};
+ghost use Rattle.books.specs.Promise.{Made, Sized, max_numbers, max_cells};
 ghost use Rattle.books.specs.Chained.{cells_of, chain, times, ends, Sound, Short, chained, head_at, Parted, literals_in};
-ghost use Rattle.std.proofs.Common.{rules, arith};
 
 use crate::cells::{Cell, CellTable};
 use crate::clause_book::{ClauseBook, MAX_CELLS, MAX_NUMBERS};
@@ -25,6 +24,7 @@ pub struct ChainedBook {
     ghost short: { Short (cells_of table) heads.items },
     ghost keeps: { (spare ≡ length (chain (cells_of table) free)) × (length (cells_of table) ≤ max_cells) },
     ghost gives: { (vec_len heads ≤ numbers) × (numbers ≤ vec_capacity heads) × (numbers ≤ max_numbers) },
+    ghost within: { Sized (chained (cells_of table) heads.items numbers) },
 }
 
 impl ChainedBook {
@@ -149,7 +149,7 @@ fn nth_cell(table: &CellTable, first: u32, place: u32) -> u32
 impl ClauseBook for ChainedBook {
     ghost meaning = { λ s. chained (cells_of s.table) s.heads.items s.numbers };
 
-    ghost sized = { first_of (Prim.search rules, Prim.grind (arith, Self.row.coded.inj)) };
+    ghost sized = { λ s. s.within };
 
     fn write(&mut self, literals: &[u32]) -> Result<u32, Refusal> {
         if literals.len() > MAX_LITERALS {

@@ -2,9 +2,8 @@
 ghost use Rattle.std.specs.Prelude.{◌≡◌, ℕ, ◌+◌, ◌<◌, ◌≤◌, ◌++◌, map, length, Some, None, vec_len, vec_capacity, slice_index_or};
 ghost use Rattle.std.specs.Option.{ok_or, option_map};
 ghost use Rattle.clauses.specs.declared.refusals.Refusal.TheVariants.{NoClause};
-ghost use Rattle.books.specs.Promise.{Made, max_numbers, max_cells};
-ghost use Rattle.books.specs.Packed.{Laid_out, packed, span_at, without, lowered, cleared};
-ghost use Rattle.std.proofs.Common.{rules, arith};
+ghost use Rattle.books.specs.Promise.{Made, Sized, max_numbers, max_cells};
+ghost use Rattle.books.specs.Packed.{LaidOut, packed, span_at, without, lowered, cleared};
 
 use crate::clause_book::{ClauseBook, MAX_CELLS, MAX_NUMBERS};
 use crate::spans::Span;
@@ -19,9 +18,10 @@ pub struct PackedBook {
     spans: Vec<Option<Span>>,
     numbers: u32,
     cells: u32,
-    ghost laid: { Laid_out literals.items spans.items },
+    ghost laid: { LaidOut literals.items spans.items },
     ghost gives: { (vec_len spans ≤ numbers) × (numbers ≤ vec_capacity spans) × (numbers ≤ max_numbers) },
     ghost keeps: { (vec_len literals ≤ cells) × (cells ≤ vec_capacity literals) × (cells ≤ max_cells) },
+    ghost within: { Sized (packed literals.items spans.items numbers cells) },
 }
 
 impl PackedBook {
@@ -110,7 +110,7 @@ fn clear_span(spans: &mut Vec<Option<Span>>, place: usize, by: u32)
 impl ClauseBook for PackedBook {
     ghost meaning = { λ b. packed b.literals.items b.spans.items b.numbers b.cells };
 
-    ghost sized = { first_of (Prim.search rules, Prim.grind (arith, Self.row.coded.inj)) };
+    ghost sized = { λ s. s.within };
 
     fn write(&mut self, literals: &[u32]) -> Result<u32, Refusal> {
         if literals.len() > MAX_LITERALS {

@@ -1,6 +1,6 @@
 -- The law of a gate's clauses, from the law of its kind.
 use Rattle.std.proofs.Common.{◌≡◌, ℕ, ◌≤◌, Bool, true, false, cond, not, ◌&&◌, T, List, [], ◌∷◌, map, length, filter, sym, refl, ap, ◌∙◌, subst, ap₂, arith}
-use Rattle.std.specs.List.{AllByRecursion as All}
+use Rattle.std.specs.List.{AllByRecursion}
 use Rattle.std.proofs.lemmas.List.{length-map}
 use Rattle.clauses.specs.Literals.{signal}
 use Rattle.clauses.specs.Clauses.{holds, all_hold, Member, Rising}
@@ -32,12 +32,12 @@ module _ (v : ℕ → Bool) (z : ℕ) (operands : List ℕ) where
       go false f e h = ap₂ (λ a b. a && b) h e
 
 -- what holds of every instance that is kept
-kept_all : (P : List ℕ → Type 0) (z : ℕ) (operands : List ℕ) → ((p : List SlotLiteral) → T (well_formed (length operands) p) → T (not (both_ways (instance z operands p))) → P (instance z operands p)) → (ps : List (List SlotLiteral)) → T (all_well_formed (length operands) ps) → All P (kept z operands ps)
+kept_all : (P : List ℕ → Type 0) (z : ℕ) (operands : List ℕ) → ((p : List SlotLiteral) → T (well_formed (length operands) p) → T (not (both_ways (instance z operands p))) → P (instance z operands p)) → (ps : List (List SlotLiteral)) → T (all_well_formed (length operands) ps) → AllByRecursion P (kept z operands ps)
 kept_all P z operands f [] t = tt
 kept_all P z operands f (p ∷ ps) t =
     go (both_ways (instance z operands p)) (f p (and_left _ _ t)) (kept_all P z operands f ps (and_right (well_formed (length operands) p) _ t))
   where
-    go : (b : Bool) → (T (not b) → P (instance z operands p)) → All P (kept z operands ps) → All P (cond (not b) (instance z operands p ∷ kept z operands ps) (kept z operands ps))
+    go : (b : Bool) → (T (not b) → P (instance z operands p)) → AllByRecursion P (kept z operands ps) → AllByRecursion P (cond (not b) (instance z operands p ∷ kept z operands ps) (kept z operands ps))
     go true h r = r
     go false h r = (h tt, r)
 
@@ -61,5 +61,5 @@ gate_law K lawful sized n z node fits above = record {
     few : length node.operands ≤ 8
     few = omega (arith, fits.full, sized.few_operands node.code fits.in_codes)
 
-    every : (P : List ℕ → Type 0) → ((p : List SlotLiteral) → T (well_formed (length node.operands) p) → T (not (both_ways (instance z node.operands p))) → P (instance z node.operands p)) → All P (clauses_of K z node)
-    every P f = subst (λ (ps : List (List SlotLiteral)). All P (kept z node.operands ps)) (sym these) (kept_all P z node.operands f (K.patterns node.code) formed)
+    every : (P : List ℕ → Type 0) → ((p : List SlotLiteral) → T (well_formed (length node.operands) p) → T (not (both_ways (instance z node.operands p))) → P (instance z node.operands p)) → AllByRecursion P (clauses_of K z node)
+    every P f = subst (λ (ps : List (List SlotLiteral)). AllByRecursion P (kept z node.operands ps)) (sym these) (kept_all P z node.operands f (K.patterns node.code) formed)

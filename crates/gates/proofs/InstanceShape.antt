@@ -1,6 +1,6 @@
 -- An instance that is kept is a clause in its kept form, and short.
 use Rattle.std.proofs.Common.{◌≡◌, ℕ, ◌<◌, ◌≤◌, Bool, true, false, not, ◌||◌, T, ◌⊎◌, List, [], ◌∷◌, map, length, get_or, sym, refl, subst, inl, inr, arith, ltb→lt}
-use Rattle.std.specs.List.{AllByRecursion as All}
+use Rattle.std.specs.List.{AllByRecursion}
 use Rattle.std.proofs.lemmas.List.{length-map}
 use Rattle.clauses.specs.Literals.{signal, literal_of, flip}
 use Rattle.clauses.specs.Clauses.{Member, member, RisingAbove, Rising}
@@ -24,7 +24,7 @@ insert_above c l (x ∷ xs) h u =
     let ih : x < l → CodesAbove x (insert l xs) = λ k. insert_above x l xs k u.1 in
     grind (arith, ih)
 
-insert_all_above : (c : ℕ) (ls cs : List ℕ) → All (λ l. c < l) ls → CodesAbove c cs → CodesAbove c (insert_all ls cs)
+insert_all_above : (c : ℕ) (ls cs : List ℕ) → AllByRecursion (λ l. c < l) ls → CodesAbove c cs → CodesAbove c (insert_all ls cs)
 insert_all_above c [] cs a u = u
 insert_all_above c (l ∷ ls) cs a u = insert_all_above c ls (insert l cs) a.1 (insert_above c l cs a.0 u)
 
@@ -66,7 +66,7 @@ module _ (n z : ℕ) (operands : List ℕ) (earlier : Earlier n operands) (own :
   code_above s true h = omega arith
   code_above s false h = omega arith
 
-  codes_above : (p : List SlotLiteral) → T (well_formed (length operands) p) → All (λ l. 1 < l) (map (put_in z operands) p)
+  codes_above : (p : List SlotLiteral) → T (well_formed (length operands) p) → AllByRecursion (λ l. 1 < l) (map (put_in z operands) p)
   codes_above [] t = tt
   codes_above (l ∷ p) t = (
     code_above (slot_signal z operands l.slot) l.negated (signal-given l.slot (and_left _ _ t)),
@@ -90,7 +90,7 @@ insert-member : (l c : ℕ) (xs : List ℕ) → Member l (insert c xs) → (l �
 insert-member l c [] m = m
 insert-member l c (x ∷ xs) m = let ih : Member l (insert c xs) → (l ≡ c) ⊎ Member l xs = insert-member l c xs in grind (arith, ih)
 
-insert_all_within : (z : ℕ) (ls cs : List ℕ) → All (λ l. signal l ≤ z) ls → ((l : ℕ) → Member l cs → signal l ≤ z) → (l : ℕ) → Member l (insert_all ls cs) → signal l ≤ z
+insert_all_within : (z : ℕ) (ls cs : List ℕ) → AllByRecursion (λ l. signal l ≤ z) ls → ((l : ℕ) → Member l cs → signal l ≤ z) → (l : ℕ) → Member l (insert_all ls cs) → signal l ≤ z
 insert_all_within z [] cs a b l m = b l m
 insert_all_within z (c ∷ ls) cs a b l m = insert_all_within z ls (insert c cs) a.1 (λ k n. here k (insert-member k c cs n)) l m
   where
@@ -107,7 +107,7 @@ module _ (n z : ℕ) (operands : List ℕ) (earlier : Earlier n operands) (own :
   code-signal s true h = omega arith
   code-signal s false h = omega arith
 
-  codes_within : (p : List SlotLiteral) → T (well_formed (length operands) p) → All (λ l. signal l ≤ z) (map (put_in z operands) p)
+  codes_within : (p : List SlotLiteral) → T (well_formed (length operands) p) → AllByRecursion (λ l. signal l ≤ z) (map (put_in z operands) p)
   codes_within [] t = tt
   codes_within (l ∷ p) t = (
     code-signal (slot_signal z operands l.slot) l.negated (signal_within l.slot (and_left _ _ t)),

@@ -1,6 +1,6 @@
 -- The clauses of a node: its operator's patterns with signals put in.
 use Rattle.std.specs.Prelude.{◌≡◌, ℕ, ◌<◌, ◌≤◌, Bool, false, cond, not, ◌||◌, T, ◌↔◌, List, [], ◌∷◌, map, length, Some, None, filter, Option, ◌==◌, nat_lt, slice_index, slice_index_or}
-use Rattle.std.specs.List.{AllByRecursion as All}
+use Rattle.std.specs.List.{AllByRecursion}
 use Rattle.clauses.specs.Literals.{signal, literal_of, flip}
 use Rattle.clauses.specs.Clauses.{all_hold, Member, member, Rising}
 use Rattle.gates.specs.declared.kinds.Slot.{Slot}
@@ -62,9 +62,9 @@ pub record ClausesLaw (K : Kind) (z : ℕ) (node : Node) : Type 0 where
   -- they hold exactly if its signal has the operator's value on its operands
   pub exact : (v : ℕ → Bool) → T (all_hold v (clauses_of K z node)) ↔ (v z ≡ K.truth node.code (map v node.operands))
   -- each is rising, is about no signal past its own, and has at most 18 literals
-  pub rising : All Rising (clauses_of K z node)
-  pub own : All (λ c. (l : ℕ) → Member l c → signal l ≤ z) (clauses_of K z node)
-  pub short : All (λ c. length c ≤ 18) (clauses_of K z node)
+  pub rising : AllByRecursion Rising (clauses_of K z node)
+  pub own : AllByRecursion (λ c. (l : ℕ) → Member l c → signal l ≤ z) (clauses_of K z node)
+  pub short : AllByRecursion (λ c. length c ≤ 18) (clauses_of K z node)
 
 abbrev pub GateLaw : Kind → Type 0
 GateLaw K = (n z : ℕ) (node : Node) → Fits K n node → n < z → ClausesLaw K z node

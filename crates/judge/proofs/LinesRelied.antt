@@ -79,13 +79,13 @@ module _ (K : Kind) (kind : PlanKind) where
   with_gates p gs = record { switches = p.switches; gates = p.gates ++ gs; root = p.root }
 
   -- gates and then a root, or gates and then a formula
-  pub record By-root (p q : Plan) (fs others : List (Result Form Refusal)) : Type 0 where
+  pub record ByRoot (p q : Plan) (fs others : List (Result Form Refusal)) : Type 0 where
     pub gates : List Node
     pub root : ℕ
     pub forms : fs ≡ map Ok (map gate_form gates ++ (lines.Root root ∷ [])) ++ others
     pub complete-plan : q ≡ with_root (with_gates p gates) root
 
-  pub record By-formula (p q : Plan) (fs others : List (Result Form Refusal)) : Type 0 where
+  pub record ByFormula (p q : Plan) (fs others : List (Result Form Refusal)) : Type 0 where
     pub gates : List Node
     pub text : List ℕ
     pub two_input_plan : kind ≡ TwoInput
@@ -97,7 +97,7 @@ module _ (K : Kind) (kind : PlanKind) where
     pub plan : Plan
     pub made : WellMade K plan
     pub others : List (Result Form Refusal)
-    pub by : By-root p plan fs others ⊎ By-formula p plan fs others
+    pub by : ByRoot p plan fs others ⊎ ByFormula p plan fs others
     pub line : ℕ
     pub stands : (open_lines K plan b line others).0 ≡ Stands s
 

@@ -8,22 +8,22 @@ use Rattle.judge.specs.Judging.{form_of_line, forms_of}
 use Rattle.judge.specs.Relying.{spell_lines}
 
 -- the first line of a text, and what stands behind its byte 10
-pub record First-line (text line : List ℕ) (others : List (Option (List ℕ))) : Type 0 where
+pub record FirstLine (text line : List ℕ) (others : List (Option (List ℕ))) : Type 0 where
   pub behind : List ℕ
   pub parted : text ≡ line ++ (10 ∷ behind)
   pub left : lines_of behind ≡ others
 
-pub first_line : (text line : List ℕ) (others : List (Option (List ℕ))) → lines_of text ≡ Some line ∷ others → First-line text line others
+pub first_line : (text line : List ℕ) (others : List (Option (List ℕ))) → lines_of text ≡ Some line ∷ others → FirstLine text line others
 first_line [] line others e = let z : ◌≡◌ {A = ℕ} 0 1 = cc in absurd (omega arith)
 first_line (b ∷ bs) line others e = go (eqb b 10) refl (lines_of bs) refl e (first_line bs)
   where
-    longer : (l : List ℕ) (ls : List (Option (List ℕ))) → Some (b ∷ l) ∷ ls ≡ Some line ∷ others → First-line bs l ls → First-line (b ∷ bs) line others
+    longer : (l : List ℕ) (ls : List (Option (List ℕ))) → Some (b ∷ l) ∷ ls ≡ Some line ∷ others → FirstLine bs l ls → FirstLine (b ∷ bs) line others
     longer l ls f r =
         let same : b ∷ l ≡ line = cc in
         let rest : ls ≡ others = cc in
         record { behind = r.behind; parted = rw (sym same) (ap (λ xs. b ∷ xs) r.parted); left = r.left ∙ rest }
 
-    go : (t : Bool) → eqb b 10 ≡ t → (ls : List (Option (List ℕ))) → lines_of bs ≡ ls → cond t (Some [] ∷ ls) (onto_line b ls) ≡ Some line ∷ others → ((l : List ℕ) (os : List (Option (List ℕ))) → lines_of bs ≡ Some l ∷ os → First-line bs l os) → First-line (b ∷ bs) line others
+    go : (t : Bool) → eqb b 10 ≡ t → (ls : List (Option (List ℕ))) → lines_of bs ≡ ls → cond t (Some [] ∷ ls) (onto_line b ls) ≡ Some line ∷ others → ((l : List ℕ) (os : List (Option (List ℕ))) → lines_of bs ≡ Some l ∷ os → FirstLine bs l os) → FirstLine (b ∷ bs) line others
     go true h ls q f ih =
         let ten : b ≡ 10 = eqb-true b 10 h in
         let same : [] ≡ line = cc in
@@ -34,15 +34,15 @@ first_line (b ∷ bs) line others e = go (eqb b 10) refl (lines_of bs) refl e (f
     go false h (Some l ∷ os) q f ih = longer l os f (ih l os q)
 
 -- the first form of a text, and what stands behind its line
-pub record First-form (text : List ℕ) (f : Form) (others : List (Result Form Refusal)) : Type 0 where
+pub record FirstForm (text : List ℕ) (f : Form) (others : List (Result Form Refusal)) : Type 0 where
   pub behind : List ℕ
   pub spelt : text ≡ spell_form f ++ (10 ∷ behind)
   pub left : forms_of behind ≡ others
 
-pub first_form : LineLaw → (text : List ℕ) (f : Form) (others : List (Result Form Refusal)) → forms_of text ≡ Ok f ∷ others → First-form text f others
+pub first_form : LineLaw → (text : List ℕ) (f : Form) (others : List (Result Form Refusal)) → forms_of text ≡ Ok f ∷ others → FirstForm text f others
 first_form law text f others e = go (lines_of text) refl e
   where
-    go : (ls : List (Option (List ℕ))) → lines_of text ≡ ls → map form_of_line ls ≡ Ok f ∷ others → First-form text f others
+    go : (ls : List (Option (List ℕ))) → lines_of text ≡ ls → map form_of_line ls ≡ Ok f ∷ others → FirstForm text f others
     go [] q h = let z : ◌≡◌ {A = ℕ} 0 1 = cc in absurd (omega arith)
     go (None ∷ ls) q h = let z : ◌≡◌ {A = ℕ} 0 1 = cc in absurd (omega arith)
     go (Some l ∷ ls) q h =

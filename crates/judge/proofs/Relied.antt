@@ -36,7 +36,7 @@ use Rattle.judge.specs.Judging.{kind_named, forms_of, plan_lines, begin_lines, f
 use Rattle.judge.specs.Relying.{spell_lines, gate_form, StatedByLines, StatedByFormula, States, StatesNone, StatesSome, Relies}
 use Rattle.judge.proofs.LinesSpelt.{begins_with}
 use Rattle.judge.proofs.LinesRun.{ComesTo, opens_come_to}
-use Rattle.judge.proofs.LinesRelied.{with_gates, By-root, By-formula, planned}
+use Rattle.judge.proofs.LinesRelied.{with_gates, ByRoot, ByFormula, planned}
 
 -- a verdict that stands is about a plan that the text states, well made and opened
 record About (text : List ℕ) (b : Book) (s : Standing) : Type 0 where
@@ -54,7 +54,7 @@ few-switches n e =
 
 -- the lines are read by how they are spelled, and a formula by how it is spelled
 module _ (spelt-lines : LineLaw) (formula-law : (p : Plan) (text : List ℕ) (q : Plan) → p.switches ≤ max_switches → formula_answer two_input p text ≡ Ok q → (fresh p ≡ true) × Spelt p.switches text q) where
-  stated_by_root : (kind : PlanKind) (text : List ℕ) (n : ℕ) (q : Plan) (fs others : List (Result Form Refusal)) → forms_of text ≡ Ok (lines.Plan kind n) ∷ fs → By-root (kind_named kind) kind (begun n) q fs others → States kind text q
+  stated_by_root : (kind : PlanKind) (text : List ℕ) (n : ℕ) (q : Plan) (fs others : List (Result Form Refusal)) → forms_of text ≡ Ok (lines.Plan kind n) ∷ fs → ByRoot (kind_named kind) kind (begun n) q fs others → States kind text q
   stated_by_root kind text n q fs others e by =
       let all : List Form = lines.Plan kind n ∷ (map gate_form by.gates ++ (lines.Root by.root ∷ [])) in
       let spelt = begins_with spelt-lines all text others (e ∙ ap (λ x. Ok (lines.Plan kind n) ∷ x) by.forms) in
@@ -63,7 +63,7 @@ module _ (spelt-lines : LineLaw) (formula-law : (p : Plan) (text : List ℕ) (q 
   no_gates_before : (n : ℕ) (gs : List Node) → fresh (with_gates two_input TwoInput (begun n) gs) ≡ true → gs ≡ []
   no_gates_before n gs e = nil_from_length gs (eqb-true (length gs) 0 e)
 
-  stated_by_formula : (kind : PlanKind) (text : List ℕ) (n : ℕ) → n ≤ max_switches → (q : Plan) (fs others : List (Result Form Refusal)) → forms_of text ≡ Ok (lines.Plan kind n) ∷ fs → By-formula (kind_named kind) kind (begun n) q fs others → States kind text q
+  stated_by_formula : (kind : PlanKind) (text : List ℕ) (n : ℕ) → n ≤ max_switches → (q : Plan) (fs others : List (Result Form Refusal)) → forms_of text ≡ Ok (lines.Plan kind n) ∷ fs → ByFormula (kind_named kind) kind (begun n) q fs others → States kind text q
   stated_by_formula Wide text n small q fs others e by = let w : Wide ≡ TwoInput = by.two_input_plan in let z : ◌≡◌ {A = ℕ} 0 1 = cc in absurd (omega arith)
   stated_by_formula TwoInput text n small q fs others e by =
       let (is_fresh, law) = formula-law (with_gates two_input TwoInput (begun n) by.gates) by.text q small by.complete-plan in
@@ -81,7 +81,7 @@ module _ (spelt-lines : LineLaw) (formula-law : (p : Plan) (text : List ℕ) (q 
   about_plan : (text : List ℕ) (b : Book) (kind : PlanKind) (n : ℕ) (fs : List (Result Form Refusal)) (s : Standing) → forms_of text ≡ Ok (lines.Plan kind n) ∷ fs → (begin_lines (kind_named kind) kind n b 1 fs).0 ≡ Stands s → About text b s
   about_plan text b kind n fs s e h = go (begin_answer n) refl h
     where
-      stated : n ≤ max_switches → (q : Plan) (others : List (Result Form Refusal)) → By-root (kind_named kind) kind (begun n) q fs others ⊎ By-formula (kind_named kind) kind (begun n) q fs others → States kind text q
+      stated : n ≤ max_switches → (q : Plan) (others : List (Result Form Refusal)) → ByRoot (kind_named kind) kind (begun n) q fs others ⊎ ByFormula (kind_named kind) kind (begun n) q fs others → States kind text q
       stated small q others (inl by) = stated_by_root kind text n q fs others e by
       stated small q others (inr by) = stated_by_formula kind text n small q fs others e by
 

@@ -1,6 +1,6 @@
 -- What stands in a book in which clauses were written one after another.
 use Rattle.std.proofs.Common.{◌≡◌, ℕ, ◌+◌, Bool, true, false, T, ◌⊎◌, List, [], ◌∷◌, ◌++◌, Some, sym, refl, ap, ◌∙◌, subst, inl, inr, arith}
-use Rattle.std.specs.List.{AllByRecursion as All}
+use Rattle.std.specs.List.{AllByRecursion}
 use Rattle.std.proofs.lemmas.Bool.{cases_eq}
 use Rattle.clauses.specs.Clauses.{holds, all_hold}
 use Rattle.books.specs.Book.{Book, given, clause_at, written}
@@ -22,7 +22,7 @@ in_append c (d ∷ cs) ds (inr m) = go (in_append c cs ds m)
     go (inl n) = inl (inr n)
     go (inr n) = inr n
 
-pub all_in : (P : List ℕ → Type 0) (c : List ℕ) (cs : List (List ℕ)) → All P cs → In c cs → P c
+pub all_in : (P : List ℕ → Type 0) (c : List ℕ) (cs : List (List ℕ)) → AllByRecursion P cs → In c cs → P c
 all_in P c (d ∷ cs) a (inl e) = subst P (sym e) a.0
 all_in P c (d ∷ cs) a (inr m) = all_in P c cs a.1 m
 all_in P c [] a m = absurd m

@@ -1,13 +1,13 @@
 -- A line is its fields with blanks between, and fields without blanks are found again.
 use Rattle.std.proofs.Common.{◌≡◌, ℕ, eqb, List, [], ◌∷◌, ◌++◌, refl, inl, inr}
-use Rattle.std.specs.List.{AllByRecursion as All}
+use Rattle.std.specs.List.{AllByRecursion}
 use Rattle.std.proofs.lemmas.Bool.{cases_Bool, ne_eqb, eqb-true, eqb-false}
 use Rattle.texts.specs.Lines.{fields_of, onto_field}
 use Rattle.texts.proofs.Parting.{field_cut}
 
 -- no blank stands in the field
 abbrev pub NoBlank : List ℕ → Type 0
-NoBlank f = All (λ b. b ≡ 32 → ⊥) f
+NoBlank f = AllByRecursion (λ b. b ≡ 32 → ⊥) f
 
 -- fields, each behind a blank
 abbrev pub led : List (List ℕ) → List ℕ
@@ -33,11 +33,11 @@ joined_fields (b ∷ bs) =
       | inr f ↦ rw (f, joined-onto b (fields_of bs), joined_fields bs) refl
     ]
 
-onto_no_blank : (b : ℕ) (fs : List (List ℕ)) → (b ≡ 32 → ⊥) → All NoBlank fs → All NoBlank (onto_field b fs)
+onto_no_blank : (b : ℕ) (fs : List (List ℕ)) → (b ≡ 32 → ⊥) → AllByRecursion NoBlank fs → AllByRecursion NoBlank (onto_field b fs)
 onto_no_blank b [] h a = ((h, tt), tt)
 onto_no_blank b (f ∷ fs) h a = ((h, a.0), a.1)
 
-pub fields_no_blank : (line : List ℕ) → All NoBlank (fields_of line)
+pub fields_no_blank : (line : List ℕ) → AllByRecursion NoBlank (fields_of line)
 fields_no_blank [] = (tt, tt)
 fields_no_blank (b ∷ bs) =
     elim (cases_Bool (eqb b 32)) [
@@ -49,9 +49,9 @@ behind_field : (f rest : List ℕ) (fs : List (List ℕ)) → NoBlank f → fiel
 behind_field [] rest fs a h = h
 behind_field (b ∷ f) rest fs a h = rw (ne_eqb b 32 a.0, behind_field f rest fs a.1 h) refl
 
-fields_led : (fs : List (List ℕ)) → All NoBlank fs → fields_of (led fs) ≡ [] ∷ fs
+fields_led : (fs : List (List ℕ)) → AllByRecursion NoBlank fs → fields_of (led fs) ≡ [] ∷ fs
 fields_led [] a = refl
 fields_led (f ∷ fs) a = rw (behind_field f (led fs) fs a.0 (fields_led fs a.1)) refl
 
-pub fields_joined : (f : List ℕ) (fs : List (List ℕ)) → NoBlank f → All NoBlank fs → fields_of (f ++ led fs) ≡ f ∷ fs
+pub fields_joined : (f : List ℕ) (fs : List (List ℕ)) → NoBlank f → AllByRecursion NoBlank fs → fields_of (f ++ led fs) ≡ f ∷ fs
 fields_joined f fs one all = behind_field f (led fs) fs one (fields_led fs all)

@@ -1,6 +1,6 @@
 -- A line has a form exactly if it is the spelling of that form.
 use Rattle.std.proofs.Common.{◌≡◌, ℕ, ◌≤◌, true, ◌||◌, eqb, leb, List, [], ◌∷◌, ◌++◌, map, length, Some, Ok, Err, decimal, Result, refl, ap, ◌∙◌, subst, inl, inr, append-nil, arith}
-use Rattle.std.specs.List.{AllByRecursion as All}
+use Rattle.std.specs.List.{AllByRecursion}
 use Rattle.std.proofs.ByRecursion.{All-from_get_or}
 use Rattle.std.proofs.lemmas.Str.Parse.{digit_at}
 use Rattle.std.proofs.lemmas.Bool.{cases_Bool, cases_eq, ne_eqb, and_parts, or_cases, eqb-true, leb-true}
@@ -25,7 +25,7 @@ IfSpelt line (Err e) = Unit {0}
 
 -- what fields that are numbers are like
 abbrev IfNumbers : List (List ℕ) → Result (List ℕ) Refusal → Type 0
-IfNumbers fs (Ok vs) = (fs ≡ map decimal vs) × All Small vs
+IfNumbers fs (Ok vs) = (fs ≡ map decimal vs) × AllByRecursion Small vs
 IfNumbers fs (Err e) = Unit {0}
 
 onto-spelt : (f : List ℕ) (fs : List (List ℕ)) (v : ℕ) (x : Result (List ℕ) Refusal) → (f ≡ decimal v) × Small v → IfNumbers fs x → IfNumbers (f ∷ fs) (onto v x)
@@ -44,42 +44,42 @@ led_numbers : (vs : List ℕ) → led (map decimal vs) ≡ spell_numbers vs
 led_numbers [] = refl
 led_numbers (v ∷ vs) = rw (led_numbers vs) refl
 
-operands_in : (vs : List ℕ) → some_operands vs ≡ true → All Small vs → (1 ≤ length vs) × (length vs ≤ 8) × All Small vs
+operands_in : (vs : List ℕ) → some_operands vs ≡ true → AllByRecursion Small vs → (1 ≤ length vs) × (length vs ≤ 8) × AllByRecursion Small vs
 operands_in vs t a = let p = and_parts (leb 1 (length vs)) (leb (length vs) 8) t in (leb-true 1 _ p.0, leb-true _ 8 p.1, a)
 
-gate_spelt : (vs : List ℕ) → All Small vs → IfSpelt (103 ∷ spell_numbers vs) (gate_form vs)
+gate_spelt : (vs : List ℕ) → AllByRecursion Small vs → IfSpelt (103 ∷ spell_numbers vs) (gate_form vs)
 gate_spelt [] a = tt
 gate_spelt (code ∷ vs) a =
     elim (cases_Bool (some_operands vs)) [ inl t ↦ rw t (refl, (a.0, operands_in vs t a.1)) | inr f ↦ rw f tt ]
 
-define_spelt : (vs : List ℕ) → All Small vs → IfSpelt (100 ∷ spell_numbers vs) (define_form vs)
+define_spelt : (vs : List ℕ) → AllByRecursion Small vs → IfSpelt (100 ∷ spell_numbers vs) (define_form vs)
 define_spelt [] a = tt
 define_spelt (z ∷ []) a = tt
 define_spelt (z ∷ (code ∷ vs)) a =
     elim (cases_Bool (some_operands vs)) [ inl t ↦ rw t (refl, (a.0, a.1.0, operands_in vs t a.1.1)) | inr f ↦ rw f tt ]
 
-root-spelt : (vs : List ℕ) → All Small vs → IfSpelt (114 ∷ spell_numbers vs) (one_form Root vs)
+root-spelt : (vs : List ℕ) → AllByRecursion Small vs → IfSpelt (114 ∷ spell_numbers vs) (one_form Root vs)
 root-spelt [] a = tt
 root-spelt (v ∷ []) a = (rw (append-nil (decimal v)) refl, a.0)
 root-spelt (v ∷ (w ∷ vs)) a = tt
 
-strike_spelt : (vs : List ℕ) → All Small vs → IfSpelt (120 ∷ spell_numbers vs) (one_form Strike vs)
+strike_spelt : (vs : List ℕ) → AllByRecursion Small vs → IfSpelt (120 ∷ spell_numbers vs) (one_form Strike vs)
 strike_spelt [] a = tt
 strike_spelt (v ∷ []) a = (rw (append-nil (decimal v)) refl, a.0)
 strike_spelt (v ∷ (w ∷ vs)) a = tt
 
-settle_spelt : (vs : List ℕ) → All Small vs → IfSpelt (101 ∷ spell_numbers vs) (one_form Settle vs)
+settle_spelt : (vs : List ℕ) → AllByRecursion Small vs → IfSpelt (101 ∷ spell_numbers vs) (one_form Settle vs)
 settle_spelt [] a = tt
 settle_spelt (v ∷ []) a = (rw (append-nil (decimal v)) refl, a.0)
 settle_spelt (v ∷ (w ∷ vs)) a = tt
 
-resolve_spelt : (vs : List ℕ) → All Small vs → IfSpelt (117 ∷ spell_numbers vs) (resolve_form vs)
+resolve_spelt : (vs : List ℕ) → AllByRecursion Small vs → IfSpelt (117 ∷ spell_numbers vs) (resolve_form vs)
 resolve_spelt [] a = tt
 resolve_spelt (v ∷ []) a = tt
 resolve_spelt (v ∷ (w ∷ [])) a = (refl, (a.0, a.1.0))
 resolve_spelt (v ∷ (w ∷ (u ∷ vs))) a = tt
 
-number_form-spelt : (letter : ℕ) (vs : List ℕ) → All Small vs → IfSpelt (letter ∷ spell_numbers vs) (number_form letter vs)
+number_form-spelt : (letter : ℕ) (vs : List ℕ) → AllByRecursion Small vs → IfSpelt (letter ∷ spell_numbers vs) (number_form letter vs)
 number_form-spelt letter vs a =
     elim (cases_eq letter 103) [
       | inl e ↦ rw e (gate_spelt vs a)
@@ -127,7 +127,7 @@ plan-spelt (k ∷ []) = tt
 plan-spelt (k ∷ (n ∷ [])) = letter_kind_spelt k n
 plan-spelt (k ∷ (n ∷ (f ∷ fs))) = tt
 
-formula-spelt : (fs : List (List ℕ)) → All NoBlank fs → IfSpelt (102 ∷ led fs) (formula_form (lone fs))
+formula-spelt : (fs : List (List ℕ)) → AllByRecursion NoBlank fs → IfSpelt (102 ∷ led fs) (formula_form (lone fs))
 formula-spelt [] a = tt
 formula-spelt ([] ∷ []) a = tt
 formula-spelt ((b ∷ bs) ∷ []) a = (rw (append-nil bs) refl, (omega arith, a.0))
@@ -140,7 +140,7 @@ show_spelt ((b ∷ bs) ∷ []) =
     elim (cases_Bool (all_bits (b ∷ bs))) [ inl t ↦ rw t (rw (append-nil bs) refl, (omega arith, t)) | inr f ↦ rw f tt ]
 show_spelt (f ∷ (g ∷ fs)) = tt
 
-letter_spelt : (letter : ℕ) (fs : List (List ℕ)) → All NoBlank fs → IfSpelt (letter ∷ led fs) (letter_form letter fs)
+letter_spelt : (letter : ℕ) (fs : List (List ℕ)) → AllByRecursion NoBlank fs → IfSpelt (letter ∷ led fs) (letter_form letter fs)
 letter_spelt letter fs a =
     elim (cases_eq letter 112) [
       | inl e ↦ rw e (plan-spelt fs)
@@ -152,7 +152,7 @@ letter_spelt letter fs a =
           ])
     ]
 
-fields_spelt : (fs : List (List ℕ)) → All NoBlank fs → IfSpelt (joined fs) (form_of fs)
+fields_spelt : (fs : List (List ℕ)) → AllByRecursion NoBlank fs → IfSpelt (joined fs) (form_of fs)
 fields_spelt [] a = tt
 fields_spelt ([] ∷ fs) a = tt
 fields_spelt ((b ∷ []) ∷ fs) a = letter_spelt b fs a.1
@@ -168,20 +168,20 @@ no_blank_decimal v small =
     All-from_get_or (λ b. b ≡ 32 → ⊥) (decimal v) 0
     (λ i h e. omega (arith, digit_at (decimal v) i (spelling (decimal v) v small refl).digits h))
 
-no_blank_decimals : (vs : List ℕ) → All Small vs → All NoBlank (map decimal vs)
+no_blank_decimals : (vs : List ℕ) → AllByRecursion Small vs → AllByRecursion NoBlank (map decimal vs)
 no_blank_decimals [] a = tt
 no_blank_decimals (v ∷ vs) a = (no_blank_decimal v a.0, no_blank_decimals vs a.1)
 
-numbers-read : (vs : List ℕ) → All Small vs → numbers (map decimal vs) ≡ Ok vs
+numbers-read : (vs : List ℕ) → AllByRecursion Small vs → numbers (map decimal vs) ≡ Ok vs
 numbers-read [] a = refl
 numbers-read (v ∷ vs) a = rw (numbers_ok (decimal v) (map decimal vs) v (number_of v a.0), numbers-read vs a.1) refl
 
 -- a line by its letter and its fields
-by_fields : (letter : ℕ) (fs : List (List ℕ)) (line : List ℕ) → line ≡ letter ∷ led fs → (letter ≡ 32 → ⊥) → All NoBlank fs → line_form line ≡ letter_form letter fs
+by_fields : (letter : ℕ) (fs : List (List ℕ)) (line : List ℕ) → line ≡ letter ∷ led fs → (letter ≡ 32 → ⊥) → AllByRecursion NoBlank fs → line_form line ≡ letter_form letter fs
 by_fields letter fs line e n a = rw (e, fields_joined (letter ∷ []) fs (n, tt) a) refl
 
 -- a line by its letter and its numbers
-by_numbers : (letter : ℕ) (vs : List ℕ) (line : List ℕ) → line ≡ letter ∷ spell_numbers vs → (letter ≡ 32 → ⊥) → All Small vs
+by_numbers : (letter : ℕ) (vs : List ℕ) (line : List ℕ) → line ≡ letter ∷ spell_numbers vs → (letter ≡ 32 → ⊥) → AllByRecursion Small vs
     → (letter ≡ 112 → ⊥) → (letter ≡ 102 → ⊥) → (letter ≡ 118 → ⊥) → line_form line ≡ number_form letter vs
 by_numbers letter vs line e n a p f v =
     by_fields letter (map decimal vs) line (rw (led_numbers vs) e) n (no_blank_decimals vs a)

@@ -1,6 +1,6 @@
 -- How lines are spelled.
 use Rattle.std.specs.Prelude.{◌≡◌, ℕ, ◌≤◌, true, List, [], ◌∷◌, ◌++◌, length, Ok, codes, decimal, ◌≢◌}
-use Rattle.std.specs.List.{AllByRecursion as All}
+use Rattle.std.specs.List.{AllByRecursion}
 use Rattle.texts.specs.declared.lines.PlanKind.{PlanKind}
 use Rattle.texts.specs.declared.lines.PlanKind.TheVariants.{TwoInput, Wide}
 use Rattle.texts.specs.Numbers.{max_number}
@@ -32,11 +32,11 @@ spell_form (Show digits) = codes "v " ++ digits
 
 -- a list of one to eight numbers
 abbrev pub Operands : List ℕ → Type 0
-Operands vs = (1 ≤ length vs) × (length vs ≤ 8) × All (λ v. v ≤ max_number) vs
+Operands vs = (1 ≤ length vs) × (length vs ≤ 8) × AllByRecursion (λ v. v ≤ max_number) vs
 
 -- no blank stands in the text, and it is not empty
 abbrev pub OneField : List ℕ → Type 0
-OneField text = (1 ≤ length text) × All (λ b. b ≢ 32) text
+OneField text = (1 ≤ length text) × AllByRecursion (λ b. b ≢ 32) text
 
 -- a line that has the form of one
 abbrev pub WellFormed : Form → Type 0

@@ -5,7 +5,7 @@ use Rattle.books.proofs.ChainedLinks.{chain_next, chain-none, chain-short}
 use Rattle.books.proofs.chained.chain_length.Goals as goal
 
 pub get-cell-requires : goal.get-cell-requires
-get-cell-requires c = let n = chain_next _ _ c.loop-cell.invariant.0 c.loop-cell-test.true in (n.pos, n.within)
+get-cell-requires c = let n = chain_next _ _ c.loop-cell.invariant.0 c.loop-cell-test.true in record { number_nonzero = n.pos; number_in_bounds = n.within }
 
 pub overflow_add-count : goal.overflow_add-count
 overflow_add-count c = omega (arith, chain-short (cells_of c.args.table.now) c.args.first)

@@ -9,10 +9,10 @@ pub loop-left-init : goal.loop-left-init
 loop-left-init c = given-none _ _ _ c.requires.first c.requires.free
 
 pub get-left-requires : goal.get-left-requires
-get-left-requires c = let n = chain_next _ _ c.loop-left.invariant.ends_a c.loop-left-test.true in (n.pos, n.within)
+get-left-requires c = let n = chain_next _ _ c.loop-left.invariant.ends_a c.loop-left-test.true in record { number_nonzero = n.pos; number_in_bounds = n.within }
 
 pub set-requires : goal.set-requires
-set-requires c = let n = chain_next _ _ c.loop-left.invariant.ends_a c.loop-left-test.true in (n.pos, n.within)
+set-requires c = let n = chain_next _ _ c.loop-left.invariant.ends_a c.loop-left-test.true in record { number_nonzero = n.pos; number_in_bounds = n.within }
 
 pub loop-left-preserved : goal.loop-left-preserved
 loop-left-preserved c =

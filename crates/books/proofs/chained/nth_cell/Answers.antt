@@ -8,7 +8,7 @@ pub loop-passed-init : goal.loop-passed-init
 loop-passed-init c = let e : c.args.place - 0 ≡ c.args.place = omega arith in (c.requires, rw e)
 
 pub get-cell-requires : goal.get-cell-requires
-get-cell-requires c = let n = chain_next _ _ c.loop-passed.invariant.0 c.if-cell-eq0.false in (n.pos, n.within)
+get-cell-requires c = let n = chain_next _ _ c.loop-passed.invariant.0 c.if-cell-eq0.false in record { number_nonzero = n.pos; number_in_bounds = n.within }
 
 pub loop-passed-preserved : goal.loop-passed-preserved
 loop-passed-preserved c =

@@ -15,12 +15,12 @@ loop-literal-init c =
 pub get-free-requires : goal.get-free-requires
 get-free-requires c =
     let n = free_next _ _ _ _ _ _ _ _ _ c.requires.enough c.loop-literal.invariant.0 c.loop-literal.invariant.1 c.in-Some.ensures.steps in
-    (n.pos, n.within)
+    record { number_nonzero = n.pos; number_in_bounds = n.within }
 
 pub set-requires : goal.set-requires
 set-requires c =
     let n = free_next _ _ _ _ _ _ _ _ _ c.requires.enough c.loop-literal.invariant.0 c.loop-literal.invariant.1 c.in-Some.ensures.steps in
-    (n.pos, n.within)
+    record { number_nonzero = n.pos; number_in_bounds = n.within }
 
 pub loop-literal-preserved : goal.loop-literal-preserved
 loop-literal-preserved c =

@@ -3,7 +3,7 @@ use Rattle.books.specs.declared.cells.Cell.{Cell}
 use Rattle.books.specs.Promise.{literal_answer}
 use Rattle.books.proofs.ChainedBooks.{Found, found, missing, no_cell, some_cell}
 use Rattle.books.proofs.chained.ChainedBookClauseBook.literal.Goals as goal
-use Rattle.books.proofs.chained.ChainedBookClauseBook.literal.Goals.{In_ok-first, at·nth_cell-cell-requires, at·get-requires, at·returns-then-cell-eq0, at·returns}
+use Rattle.books.proofs.chained.ChainedBookClauseBook.literal.Goals.{In_ok-first}
 
 at : (c : goal.In_ok-first) → Found c.args.self.now c.args.number c.in_ok-first.first
 at c = found c.args.self.now c.args.number c.in_ok-first.first c.in_ok-first.ensures
@@ -18,7 +18,7 @@ pub get-requires : goal.get-requires
 get-requires c =
     let f = at (goal.at.get-requires c).In_ok-first in
     let s = some_cell _ _ _ _ f.goes c.nth_cell-cell.ensures c.if-cell-eq0.false in
-    (s.0, s.1)
+    record { number_nonzero = s.0; number_in_bounds = s.1 }
 
 pub returns-then-cell-eq0 : goal.returns-then-cell-eq0
 returns-then-cell-eq0 c =

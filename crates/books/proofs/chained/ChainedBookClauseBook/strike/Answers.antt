@@ -1,10 +1,10 @@
-use Rattle.std.proofs.Common.{sym, ap, arith, rules}
-use Rattle.std.proofs.lemmas.List.{length-append}
+use Rattle.std.proofs.Common.{◌-◌, None, vec_items, sym, ap, arith, rules}
+use Rattle.std.proofs.lemmas.List.{length-append, length-set}
 use Rattle.books.specs.Promise.{strike_answer}
 use Rattle.books.specs.Chained.{cells_of, chain}
-use Rattle.books.proofs.ChainedBooks.{Found, found, missing, struck-left, struck_means}
+use Rattle.books.proofs.ChainedBooks.{sized, Found, found, missing, struck-left, struck_means}
 use Rattle.books.proofs.chained.ChainedBookClauseBook.strike.Goals as goal
-use Rattle.books.proofs.chained.ChainedBookClauseBook.strike.Goals.{In_ok-first, at·chain_length-length-requires, at·give_back-self-requires, at·add-self, at·index_mut-requires, at·ghost-self, at·returns}
+use Rattle.books.proofs.chained.ChainedBookClauseBook.strike.Goals.{In_ok-first}
 
 at : (c : goal.In_ok-first) → Found c.args.self.now c.args.number c.in_ok-first.first
 at c = found c.args.self.now c.args.number c.in_ok-first.first c.in_ok-first.ensures
@@ -37,7 +37,13 @@ invariant_of-self c =
     let l = struck-left b c.args.number c.in_ok-first.first f (cells_of c.give_back-self.new.table) c.give_back-self.result c.give_back-self.ensures in
     let size = c.give_back-self.ensures.size in
     let spare = l.spare in
-    (l.sound, (l.short, ((omega arith, omega arith), ((omega arith, omega arith, omega arith), tt))))
+    record {
+      sound = l.sound;
+      short = l.short;
+      keeps = (omega arith, omega arith);
+      gives = (omega arith, omega arith, omega arith);
+      within = sized _ _ b.numbers _ l.sound l.short (omega arith) (omega (arith, length-set (vec_items b.heads) (c.args.number - 1) None)) (omega arith);
+    }
 
 pub returns : goal.returns
 returns c =

@@ -2,7 +2,7 @@ use Rattle.std.proofs.Common.{Ok, vec_items, sym, ap, ◌∙◌, arith}
 use Rattle.books.specs.Chained.{cells_of}
 use Rattle.books.proofs.BookAnswers.{write_granted}
 use Rattle.books.proofs.ChainedHeads.{free_once}
-use Rattle.books.proofs.ChainedBooks.{meaning_of, given_is, free_numbers_is, free_cells_is, written-left, written_means}
+use Rattle.books.proofs.ChainedBooks.{sized, meaning_of, given_is, free_numbers_is, free_cells_is, written-left, written_means}
 use Rattle.books.proofs.chained.ChainedBookClauseBook.write.Goals as goal
 
 pub take_cells-fronts-requires : goal.take_cells-fronts-requires
@@ -25,7 +25,13 @@ invariant_of-self c =
     let l = written-left b c.args.literals.now _ _ _ _ t.parted t.holds (omega arith) c.push_reserved.ensures.items in
     let size = t.parted.size in
     let spare = l.spare in
-    (l.sound, (l.short, ((omega arith, omega arith), ((omega arith, omega arith, omega arith), tt))))
+    record {
+      sound = l.sound;
+      short = l.short;
+      keeps = (omega arith, omega arith);
+      gives = (omega arith, omega arith, omega arith);
+      within = sized _ _ b.numbers _ l.sound l.short (omega arith) (omega arith) (omega arith);
+    }
 
 pub returns : goal.returns
 returns c =

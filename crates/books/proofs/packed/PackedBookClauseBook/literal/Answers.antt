@@ -4,7 +4,7 @@ use Rattle.std.proofs.lemmas.Bool.{lt-ltb, le-ltb}
 use Rattle.books.specs.Packed.{covered}
 use Rattle.books.proofs.PackedBooks.{Found, found, missing}
 use Rattle.books.proofs.packed.PackedBookClauseBook.literal.Goals as goal
-use Rattle.books.proofs.packed.PackedBookClauseBook.literal.Goals.{In_ok-span, at·returns-then-place-span, at·add-span, at·index-requires, at·returns}
+use Rattle.books.proofs.packed.PackedBookClauseBook.literal.Goals.{In_ok-span}
 
 at : (c : goal.In_ok-span) → Found c.args.self.now c.args.number c.in_ok-span.span
 at c = found c.args.self.now c.args.number c.in_ok-span.span c.in_ok-span.ensures
@@ -18,10 +18,10 @@ returns-then-place-span c =
     rw (f.clause, le-ltb c.args.place (length (covered (vec_items c.args.self.now.literals) c.in_ok-span.span)) (omega arith))
 
 pub overflow_add-span : goal.overflow_add-span
-overflow_add-span c = omega (arith, (at (goal.at.overflow_add-span c).In_ok-span).ranges)
+overflow_add-span c = omega (arith, (at (goal.at.overflow_add-span c).In_ok-span).fits)
 
 pub index-requires : goal.index-requires
-index-requires c = omega (arith, (at (goal.at.index-requires c).In_ok-span).ranges)
+index-requires c = omega (arith, (at (goal.at.index-requires c).In_ok-span).fits)
 
 pub returns : goal.returns
 returns c =
