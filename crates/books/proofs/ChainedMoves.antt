@@ -1,5 +1,5 @@
 -- The loops that move cells from the front of one chain to the front of another.
-use Rattle.std.proofs.Common.{◌≡◌, ℕ, ◌+◌, ◌<◌, ◌≤◌, true, ◌≢◌, List, [], ◌∷◌, ◌++◌, length, sym, refl, ap, ◌∙◌, arith}
+use Rattle.std.proofs.Common.{◌≡◌, ℕ, ◌<◌, ◌≤◌, true, ◌≢◌, List, [], ◌∷◌, ◌++◌, length, sym, refl, ap, ◌∙◌, arith}
 use Rattle.std.proofs.lemmas.List.{length-set, length-append, length-map, append_assoc, append-nil, nil_from_length}
 use Rattle.books.specs.declared.cells.Cell.{Cell}
 use Rattle.books.specs.Chained.{cell_at, with_cell, chain, ends, times, literals_in, Parted}

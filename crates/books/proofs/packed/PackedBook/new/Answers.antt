@@ -6,7 +6,9 @@ use Rattle.books.proofs.packed.PackedBook.new.Goals as goal
 
 pub invariant_of-result : goal.invariant_of-result
 invariant_of-result c =
-    let laid = laid_none _ _ c.in-Ok.ensures.items c.in-Ok-with_capacity.ensures.items in
+    let literals = c.in-Ok.ensures in
+    let spans = c.in-Ok-with_capacity.ensures in
+    let laid = laid_none _ _ literals.items spans.items in
     record {
       laid = laid;
       gives = (omega arith, omega arith, omega arith);
