@@ -1,5 +1,6 @@
 // Puts both clause books through the same steps at several sizes, and prints what they answered.
 #![tactic(auto)]
+
 mod steps;
 
 use anyhow::anyhow;

@@ -1,5 +1,6 @@
 // What the referee promises: plans, dockets, calls, and the law of every run.
 #![tactic(auto)]
+
 pub mod law;
 pub mod standing;
 

@@ -1,5 +1,6 @@
 // Prints the operator tables that the clauses come from, for a person to read.
 #![tactic(auto)]
+
 mod text;
 
 use gates::{GateKind, TwoInput, Wide};

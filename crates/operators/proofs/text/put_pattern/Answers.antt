@@ -9,10 +9,10 @@ loop-place-preserved g c =
     let names = c.args.names.now in
     let pattern = get_or (g.G.GateKind.kind.patterns c.args.code) c.args.index [] in
     let old = string_bytes c.loop-place.text in
-    let mid = string_bytes c.push-str.new.self in
-    joined_step (literal_text names) (codes " ") pattern c.loop-place.place past_end (string_bytes c.args.text.now) old mid (string_bytes c.put-literal.new.text) (omega arith) c.loop-place.invariant
-    (c.in-ok-push-str.ensures.bytes ∙ ap (λ t. old ++ t) c.shown-if.ensures)
-    (c.in-ok-put-literal.ensures ∙ ap (λ l. mid ++ literal_text names l) c.pattern-literal.ensures)
+    let mid = string_bytes c.push_str.new.self in
+    joined_step (literal_text names) (codes " ") pattern c.loop-place.place past_end (string_bytes c.args.text.now) old mid (string_bytes c.put_literal.new.text) (omega arith) c.loop-place.invariant
+    (c.in_ok-push_str.ensures.bytes ∙ ap (λ t. old ++ t) c.shown_if.ensures)
+    (c.in_ok-put_literal.ensures ∙ ap (λ l. mid ++ literal_text names l) c.pattern_literal.ensures)
 
 pub returns : goal.returns
 returns g c =
