@@ -3,6 +3,7 @@ use Rattle.std.proofs.Common.{◌≡◌, ℕ, ◌+◌, ◌≤◌, true, false, L
 use Rattle.std.proofs.lemmas.List.{length-map, length-append}
 use Rattle.gates.specs.declared.records.NodeRecord.{NodeRecord}
 use Rattle.gates.specs.Kinds.{Kind, Sized}
+use Rattle.gates.specs.declared.kinds.GateKind.{Ghosts}
 use Rattle.gates.specs.Nodes.{node_of}
 use Rattle.model.specs.Dockets.{literal_count}
 use Rattle.model.specs.Plans as model
@@ -23,7 +24,7 @@ root-one p e = go p.root e
     go None e = let never : ◌≡◌ {A = ℕ} 0 1 = cc in absurd (omega arith)
 
 -- n and gs are what was read of the plan
-module _ {G : Type 0} (p : Plan G) (n : ℕ) (gs : List NodeRecord) (n-is : n ≡ p.switches) (gs-are : map node_of gs ≡ (plan_of p).gates) where
+module _ {G : Type 0} {g : Ghosts G} (p : Plan G g) (n : ℕ) (gs : List NodeRecord) (n-is : n ≡ p.switches) (gs-are : map node_of gs ≡ (plan_of p).gates) where
   pub few-signals : n + length gs ≤ 512
   few-signals =
       let count = length-map gs node_of in

@@ -3,6 +3,7 @@ use Rattle.std.proofs.Common.{◌≡◌, ℕ, ◌≤◌, false, T, List, [], ◌
 use Rattle.clauses.specs.Literals.{literal_of}
 use Rattle.gates.specs.declared.records.NodeRecord.{NodeRecord}
 use Rattle.gates.specs.Kinds.{Kind}
+use Rattle.gates.specs.declared.kinds.GateKind.{Ghosts}
 use Rattle.gates.specs.Nodes.{node_of}
 use Rattle.books.specs.Book.{Book, free_numbers, free_cells, written}
 use Rattle.model.specs.Dockets.{has_room, all_written}
@@ -12,7 +13,7 @@ use Rattle.plans.specs.PlanStates.{plan_of}
 use Rattle.plans.proofs.Room.{room_one, room_some, room_others, all_written-append}
 
 -- n and gs are what was read of the plan, for which the book b has room
-module _ {G : Type 0} (K : Kind) (p : Plan G) (n : ℕ) (gs : List NodeRecord) (n-is : n ≡ p.switches) (gs-are : map node_of gs ≡ (plan_of p).gates) (b : Book) (t : T (has_room b (plan_clauses K (plan_of p)))) where
+module _ {G : Type 0} {g : Ghosts G} (K : Kind) (p : Plan G g) (n : ℕ) (gs : List NodeRecord) (n-is : n ≡ p.switches) (gs-are : map node_of gs ≡ (plan_of p).gates) (b : Book) (t : T (has_room b (plan_clauses K (plan_of p)))) where
   abbrev gates : List (List ℕ)
   gates = nodes_clauses K p.switches (plan_of p).gates
 

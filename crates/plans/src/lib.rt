@@ -1,5 +1,6 @@
 // Plans: the calls that make one, its value under a setting, and its clauses written into a book.
 #![tactic(auto)]
+
 pub mod demands;
 pub mod operands;
 pub mod plans;

@@ -6,7 +6,7 @@ use Rattle.plans.proofs.Counting.{counted_same, counted_one, counted_all}
 use Rattle.plans.proofs.Counts.{node-few}
 use Rattle.plans.proofs.demands.node_demand.Given as given
 use Rattle.plans.proofs.demands.node_demand.Goals as goal
-use Rattle.plans.proofs.demands.node_demand.Goals.{in-Some, in-default, In-Some, at·add-demand, at·cast-demand, at·add-demand-in-Some}
+use Rattle.plans.proofs.demands.node_demand.Goals.{in-Some, in_default, In-Some}
 
 -- what is counted with one clause more is still few
 few : (g : given.Over) (c : goal.In-Some g) → (c.loop-index.demand.numbers + 1 ≤ 16) × (c.loop-index.demand.cells + c.in-Some.length ≤ 288)
@@ -18,14 +18,14 @@ few g c =
     let all = node-few K g.met.G.GateKind.sized c.args.output node in
     (omega arith, omega arith)
 
-pub overflow-add-demand : goal.overflow-add-demand
-overflow-add-demand g c = omega (arith, few g (goal.at.overflow-add-demand g c).In-Some)
+pub overflow_add-demand : goal.overflow_add-demand
+overflow_add-demand g c = omega (arith, few g (goal.at.overflow_add-demand g c).In-Some)
 
-pub overflow-cast-demand : goal.overflow-cast-demand
-overflow-cast-demand g c = omega (arith, few g (goal.at.overflow-cast-demand g c).In-Some)
+pub overflow_cast-demand : goal.overflow_cast-demand
+overflow_cast-demand g c = omega (arith, few g (goal.at.overflow_cast-demand g c).In-Some)
 
-pub overflow-add-demand-in-Some : goal.overflow-add-demand-in-Some
-overflow-add-demand-in-Some g c = omega (arith, few g (goal.at.overflow-add-demand-in-Some g c).In-Some)
+pub overflow_add-demand-in-Some : goal.overflow_add-demand-in-Some
+overflow_add-demand-in-Some g c = omega (arith, few g (goal.at.overflow_add-demand-in-Some g c).In-Some)
 
 pub loop-index-preserved : goal.loop-index-preserved
 loop-index-preserved g c =
@@ -34,13 +34,13 @@ loop-index-preserved g c =
     let node = node_of c.args.node.now in
     let i = c.loop-index.index in
     let t = c.loop-index.invariant.1 in (
-      omega (arith, c.fill-clause.auto.out),
-      elim c.match-fill-clause.branch [
+      omega (arith, c.fill_clause.auto.out),
+      elim c.match-fill_clause.branch [
         | in-Some w ↦
             let next = next_kept K z node i (omega arith) _ w.in-Some.ensures.answer in
             counted_one t _ _ next.1 _ next.0 _ w.demand-is
-        | in-default w ↦
-            let next = next_left_out K z node i (omega arith) w.in-default.ensures.answer in
+        | in_default w ↦
+            let next = next_left_out K z node i (omega arith) w.in_default.ensures.answer in
             counted_same t _ next _ w.demand-is
       ],
     )

@@ -5,8 +5,8 @@ use Rattle.model.specs.Dockets.{literal_count}
 use Rattle.plans.proofs.Counts.{patterns-few}
 use Rattle.plans.proofs.demands.pattern_demand.Goals as goal
 
-pub overflow-add-cells : goal.overflow-add-cells
-overflow-add-cells g c =
+pub overflow_add-cells : goal.overflow_add-cells
+overflow_add-cells g c =
     let K = g.G.GateKind.kind in
     let few = patterns-few K g.met.G.GateKind.sized c.args.code c.requires in
     let next = ap literal_count (drop_more (K.patterns c.args.code) c.loop-index.index [] (omega arith)) in
@@ -22,4 +22,4 @@ pub returns : goal.returns
 returns g c =
     let K = g.G.GateKind.kind in
     let none = ap literal_count (drop_all c.loop-index.index (K.patterns c.args.code) (omega arith)) in
-    ap₂ (λ n m. record { numbers = n; cells = m }) c.pattern-count.ensures (omega arith)
+    ap₂ (λ n m. record { numbers = n; cells = m }) c.pattern_count.ensures (omega arith)

@@ -4,8 +4,8 @@ use Rattle.std.proofs.lemmas.List.{take_more, take_more_set}
 use Rattle.model.proofs.Reasons.{signals-earlier}
 use Rattle.plans.proofs.operands.narrowed.Goals as goal
 
-pub overflow-cast-kept : goal.overflow-cast-kept
-overflow-cast-kept c =
+pub overflow_cast-kept : goal.overflow_cast-kept
+overflow_cast-kept c =
     let few = signals-earlier c.args.signals c.args.operands.now c.requires.there c.loop-i.i (omega arith) in
     omega arith
 

@@ -5,8 +5,8 @@ use Rattle.model.specs.Settings.{setting_of, count_on}
 use Rattle.plans.proofs.CountingOnes.{ones_more, ones_few, ones_all, enough_bytes}
 use Rattle.plans.proofs.settings.count_on.Goals as goal
 
-pub overflow-add-on : goal.overflow-add-on
-overflow-add-on c =
+pub overflow_add-on : goal.overflow_add-on
+overflow_add-on c =
     let byte = get_or c.args.setting.now c.loop-byte.byte-index 0 in
     let small : byte < 256 = omega arith in
     omega (arith, ones-le 8 byte small, ones_few c.args.setting.now (8 * c.loop-byte.byte-index), enough_bytes c.args.switches c.args.setting.now c.requires.packed, c.loop-byte.invariant)

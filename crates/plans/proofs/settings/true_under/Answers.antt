@@ -5,6 +5,7 @@ use Rattle.std.proofs.lemmas.List.{length-map, length-take, length-append, lengt
 use Rattle.std.proofs.lemmas.Slice.{overwrites}
 use Rattle.gates.specs.declared.records.NodeRecord.{NodeRecord}
 use Rattle.gates.specs.Kinds.{Kind}
+use Rattle.gates.specs.declared.kinds.GateKind.{Ghosts}
 use Rattle.gates.specs.Nodes.{node_of, value_at, values_of}
 use Rattle.model.specs.Plans.{Plan, signals, true_under, plan_values}
 use Rattle.model.specs.Settings.{bit_at, setting_of}
@@ -28,11 +29,11 @@ root_value K p bytes root switches count part gates unpacked behind evaluated re
     ∙ ap (λ (o : Option ℕ). elim o [ Some r ↦ value_at (plan_values K p (setting_of p.switches bytes)) r | None ↦ false ]) is_root
 
 -- the sizes that a plan keeps leave room for the values of all its signals
-few-signals : {G : Type 0} (p : Kept G) → signals (plan_of p) ≤ 512
+few-signals : {G : Type 0} {g : Ghosts G} (p : Kept G g) → signals (plan_of p) ≤ 512
 few-signals p = omega (arith, length-map (vec_items p.gates) node_of, p.sizes)
 
-pub slice-bounds-values-end-2 : goal.slice-bounds-values-end-2
-slice-bounds-values-end-2 g c = let few = few-signals c.args.plan.now in search (rules, overwrites)
+pub slice_bounds-values-end-2 : goal.slice_bounds-values-end-2
+slice_bounds-values-end-2 g c = let few = few-signals c.args.plan.now in search (rules, overwrites)
 
 pub evaluate-requires : goal.evaluate-requires
 evaluate-requires g c =
@@ -41,8 +42,8 @@ evaluate-requires g c =
     let set : length c.unpack.new.values ≡ c.switches-switches.result = search (rules, overwrites) in
     simp (length-take, length-append, length-drop) (omega arith)
 
-pub slice-bounds-value-at-end : goal.slice-bounds-value-at-end
-slice-bounds-value-at-end g c = let few = few-signals c.args.plan.now in search (rules, overwrites)
+pub slice_bounds-value_at-end : goal.slice_bounds-value_at-end
+slice_bounds-value_at-end g c = let few = few-signals c.args.plan.now in search (rules, overwrites)
 
 pub returns : goal.returns
 returns g c =

@@ -7,7 +7,7 @@ use Rattle.plans.proofs.settings.unpack.Goals as goal
 
 pub loop-place-preserved : goal.loop-place-preserved
 loop-place-preserved c =
-    rw c.bit-at.ensures (fill_by_more (bit_at c.args.setting.now) c.loop-place.values c.loop-place.place false (omega arith) c.loop-place.invariant)
+    rw c.bit_at.ensures (fill_by_more (bit_at c.args.setting.now) c.loop-place.values c.loop-place.place false (omega arith) c.loop-place.invariant)
 
 pub returns : goal.returns
 returns c = fill_by_all (bit_at c.args.setting.now) c.loop-place.values _ false c.loop-place.auto.values (λ k h. c.loop-place.invariant k (omega arith))

@@ -4,16 +4,16 @@ use Rattle.plans.proofs.PlanDemand.{few-signals}
 use Rattle.plans.proofs.PlanWritten.{room_for_gates, room_for_root, with_root-written}
 use Rattle.plans.proofs.writing.write_plan.Goals as goal
 
-pub write-nodes-requires : goal.write-nodes-requires
-write-nodes-requires g c = record {
+pub write_nodes-requires : goal.write_nodes-requires
+write_nodes-requires g c = record {
   few = omega (arith, few-signals c.args.plan.now _ _ c.switches.ensures c.gates.ensures);
   room = room_for_gates g.G.GateKind.kind c.args.plan.now _ _ c.switches.ensures c.gates.ensures _ c.requires;
 }
 
-pub write-kept-requires : goal.write-kept-requires
-write-kept-requires g c =
-    let room = room_for_root g.G.GateKind.kind c.args.plan.now _ _ c.switches.ensures c.gates.ensures _ c.requires _ c.write-nodes.ensures _ c.in-Some.ensures in
+pub write_kept-requires : goal.write_kept-requires
+write_kept-requires g c =
+    let room = room_for_root g.G.GateKind.kind c.args.plan.now _ _ c.switches.ensures c.gates.ensures _ c.requires _ c.write_nodes.ensures _ c.in-Some.ensures in
     record { short = omega arith; number = room.0; cells = room.1 }
 
 pub returns-in-Some : goal.returns-in-Some
-returns-in-Some g c = with_root-written g.G.GateKind.kind c.args.plan.now _ _ c.switches.ensures c.gates.ensures _ c.requires _ c.write-nodes.ensures _ c.in-Some.ensures _ c.literal_of.ensures _ c.write-kept.ensures
+returns-in-Some g c = with_root-written g.G.GateKind.kind c.args.plan.now _ _ c.switches.ensures c.gates.ensures _ c.requires _ c.write_nodes.ensures _ c.in-Some.ensures _ c.literal_of.ensures _ c.write_kept.ensures

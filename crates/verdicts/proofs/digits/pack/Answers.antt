@@ -11,7 +11,7 @@ loop-i-preserved c =
     let digits = c.args.digits.now in
     let byte : ℕ → ℕ = λ k. byte_of (take 8 (drop (8 * k) digits)) in
     let eight = take_eight c.min-end.result (8 * i) digits c.min-end.ensures (omega arith) in
-    let same : c.byte-of.result ≡ byte i = c.byte-of.ensures ∙ ap byte_of eight in
+    let same : c.byte_of.result ≡ byte i = c.byte_of.ensures ∙ ap byte_of eight in
     take_more_set c.loop-i.out i _ (omega arith)
     ∙ ap₂ (λ (front : List ℕ) (b : ℕ). front ++ (b ∷ [])) c.loop-i.invariant same
     ∙ sym (map-range_with_len_more byte 0 i i (omega arith))

@@ -4,14 +4,14 @@ use Rattle.model.specs.Plans.{complete, is_signal, signals}
 use Rattle.plans.specs.PlanStates.{plan_of}
 use Rattle.plans.proofs.plans.Plan.root.Goals as goal
 
-pub returns-then-is-complete : goal.returns-then-is-complete
-returns-then-is-complete g c =
+pub returns-then-is_complete : goal.returns-then-is_complete
+returns-then-is_complete g c =
     let p = plan_of c.args.self.now in
     let done : complete p ≡ true = cc in
     record { answer = simp done; after = refl }
 
-pub returns-then-not-is-signal : goal.returns-then-not-is-signal
-returns-then-not-is-signal g c =
+pub returns-then-not-is_signal : goal.returns-then-not-is_signal
+returns-then-not-is_signal g c =
     let p = plan_of c.args.self.now in
     let growing : complete p ≡ false = cc in
     let none : is_signal (signals p) c.args.signal ≡ false = cc in

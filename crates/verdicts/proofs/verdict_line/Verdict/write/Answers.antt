@@ -15,12 +15,12 @@ returns c =
       | in-Stands w ↦
           let standing = w.in-Stands.standing in
           let rest = count_text standing ++ (10 ∷ []) in
-          let said : w.as-bytes.result.now ≡ standing_words standing = cc in
+          let said : w.as_bytes.result.now ≡ standing_words standing = cc in
           let size = ap length said in
           let short = words_short standing in
-          let words = w.put-text-words.ensures in
-          let count = w.put-count-end.ensures in
-          let after-words = put_all w.as-bytes.result.now rest (omega arith) words.end words.buffer (rw said refl) (line_due (standing_words standing ++ rest) start) in
+          let words = w.put_text-words.ensures in
+          let count = w.put_count-end.ensures in
+          let after-words = put_all w.as_bytes.result.now rest (omega arith) words.end words.buffer (rw said refl) (line_due (standing_words standing ++ rest) start) in
           let after-count = put_all (count_text standing) (10 ∷ []) (omega arith) count.end count.buffer refl after-words in
           simp (w.end-is, w.out-is, w.in-Stands.is) (after-count, omega arith)
       | in-Refused w ↦
@@ -28,9 +28,9 @@ returns c =
           let number = refusal_number w.in-Refused.refusal in
           let rest = spaced number ++ (10 ∷ []) in
           let same : w.from.result ≡ number = let valued = number_or_zero w.in-Refused.refusal in cc in
-          let words = w.put-text-words-in-Refused.ensures in
-          let place = w.put-spaced-place.ensures in
-          let reason = w.put-spaced-end.ensures in
+          let words = w.put_text-words-in-Refused.ensures in
+          let place = w.put_spaced-place.ensures in
+          let reason = w.put_spaced-end.ensures in
           let after-words = put_all (codes "refused") (line ++ rest) (omega arith) words.end words.buffer refl (line_due (codes "refused" ++ (line ++ rest)) start) in
           let after_Line = put_all line rest (omega arith) place.end place.buffer refl after-words in
           let after-number = put_all (spaced w.from.result) (10 ∷ []) (omega arith) reason.end reason.buffer (rw same refl) after_Line in

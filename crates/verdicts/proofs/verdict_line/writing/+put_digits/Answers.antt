@@ -3,8 +3,8 @@ use Rattle.verdicts.proofs.LineParts.{length-one, length-step, placed-digit, pla
 use Rattle.verdicts.proofs.verdict_line.writing.+put_digits.Goals as goal
 use Rattle.verdicts.proofs.verdict_line.writing.+put_digits.Goals.{then-number-lt10, else-number-lt10}
 
-pub put-digits-last-requires : goal.put-digits-last-requires
-put-digits-last-requires t c = (omega arith, omega (arith, length-step c.args.number (omega arith) c.if-number-lt10.false))
+pub put_digits-last-requires : goal.put_digits-last-requires
+put_digits-last-requires t c = (omega arith, omega (arith, length-step c.args.number (omega arith) c.if-number-lt10.false))
 
 pub bounds-out-last : goal.bounds-out-last
 bounds-out-last t c =
@@ -13,8 +13,8 @@ bounds-out-last t c =
       | else-number-lt10 w ↦ omega (arith, w.last-is, length-step c.args.number (omega arith) w.if-number-lt10.false)
     ]
 
-pub overflow-add-result : goal.overflow-add-result
-overflow-add-result t c =
+pub overflow_add-result : goal.overflow_add-result
+overflow_add-result t c =
     elim c.if-number-lt10.branch [
       | then-number-lt10 w ↦ omega (arith, w.last-is, length-one c.args.number w.if-number-lt10.true)
       | else-number-lt10 w ↦ omega (arith, w.last-is, length-step c.args.number (omega arith) w.if-number-lt10.false)
@@ -28,7 +28,7 @@ returns t c =
           simp (w.last-is, w.out-is) record { end = omega arith; buffer = placed-digit c.args.number c.args.at c.args.out.now w.if-number-lt10.true (omega arith) }
       | else-number-lt10 w ↦
           let step = length-step c.args.number (omega arith) w.if-number-lt10.false in
-          let d = w.put-digits-last.ensures in
+          let d = w.put_digits-last.ensures in
           simp (w.last-is, w.out-is) record {
             end = omega arith;
             buffer = placed_last c.args.number c.args.at _ c.args.out.now _ (omega arith) w.if-number-lt10.false (omega arith) (omega arith) d.end d.buffer;

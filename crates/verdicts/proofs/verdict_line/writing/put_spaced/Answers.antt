@@ -2,13 +2,13 @@ use Rattle.std.proofs.Common.{ℕ, decimal, arith, length-set}
 use Rattle.verdicts.proofs.LineParts.{length-short, placed-after}
 use Rattle.verdicts.proofs.verdict_line.writing.put_spaced.Goals as goal
 
-pub put-digits-requires : goal.put-digits-requires
-put-digits-requires c = simp length-set (omega (arith, length-short c.args.number (omega arith)))
+pub put_digits-requires : goal.put_digits-requires
+put_digits-requires c = simp length-set (omega (arith, length-short c.args.number (omega arith)))
 
 pub returns : goal.returns
 returns c =
     let short = length-short c.args.number (omega arith) in
-    let d = c.put-digits.ensures in
+    let d = c.put_digits.ensures in
     record {
       within = omega arith;
       end = omega arith;

@@ -5,4 +5,4 @@ use Rattle.verdicts.proofs.verdict_line.writing.put_text.Goals as goal
 pub returns : goal.returns
 returns c =
     let k : (c.args.at + length c.args.text.now) - c.args.at ≡ length c.args.text.now = omega arith in
-    record { end = refl; buffer = simp (c.copy-from-slice.ensures.after, k, drop-drop, append_assoc) }
+    record { end = refl; buffer = simp (c.copy_from_slice.ensures.after, k, drop-drop, append_assoc) }
