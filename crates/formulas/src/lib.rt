@@ -1,5 +1,6 @@
 // Formula texts: read left to right into the gates and the root of a plan.
 #![tactic(auto)]
+
 mod parts;
 pub mod reading;
 

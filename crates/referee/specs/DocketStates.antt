@@ -1,6 +1,8 @@
 -- The docket that a value of the type Docket keeps, and the call that a value of the type Call is.
 use Rattle.std.specs.Prelude.{◌≡◌, ℕ, List, map, Ok, Err, vec_items, Result}
 use Rattle.clauses.specs.declared.refusals.Refusal.{Refusal}
+use Rattle.gates.specs.declared.kinds.GateKind as gate_kind
+use Rattle.books.specs.declared.clause_book.ClauseBook as clause_book
 use Rattle.gates.specs.Kinds.{Kind}
 use Rattle.gates.specs.Nodes.{Node, node_of}
 use Rattle.books.specs.Book.{Book}
@@ -16,7 +18,7 @@ use Rattle.referee.specs.declared.dockets.Call.{Call}
 use Rattle.referee.specs.declared.dockets.Call.TheVariants.{Define, Resolve, Strike, Settle, Show}
 use Rattle.plans.specs.PlanStates.{plan_of, RefusedAs}
 
-abbrev pub state_of : {G B : Type 0} → (B → Book) → Docket G B → dockets.Docket
+abbrev pub state_of : {G B : Type 0} {g : gate_kind.Ghosts G} {h : clause_book.Ghosts B} → (B → Book) → Docket G B g h → dockets.Docket
 state_of meaning d = record {
   plan = plan_of d.plan;
   definitions = map node_of (vec_items d.definitions);
@@ -25,7 +27,7 @@ state_of meaning d = record {
 }
 
 -- what open gives: the docket of the plan on the book, or a refusal and the very book
-abbrev pub OpenGives : {G B : Type 0} → Kind → (B → Book) → plans.Plan → B → Result (Docket G B) (Refusal × B) → Type 0
+abbrev pub OpenGives : {G B : Type 0} {g : gate_kind.Ghosts G} {h : clause_book.Ghosts B} → Kind → (B → Book) → plans.Plan → B → Result (Docket G B g h) (Refusal × B) → Type 0
 OpenGives K meaning p b (Ok d) = (open_answer K p (meaning b) ≡ Ok tt) × (state_of meaning d ≡ opened K p (meaning b))
 OpenGives K meaning p b (Err e) = RefusedAs (open_answer K p (meaning b)) e.0 × (e.1 ≡ b)
 

@@ -1,6 +1,8 @@
 -- The law of every run, on plans, books and dockets as they are in memory.
 use Rattle.std.specs.Prelude.{◌≡◌, ℕ, ◌^◌, ◌≤◌, Bool, true, T, List, [], ◌∷◌, ◌++◌, Some, Ok}
 use Rattle.clauses.specs.Clauses.{holds}
+use Rattle.gates.specs.declared.kinds.GateKind as gate_kind
+use Rattle.books.specs.declared.clause_book.ClauseBook as clause_book
 use Rattle.gates.specs.Kinds.{Kind}
 use Rattle.gates.specs.Nodes.{value_at}
 use Rattle.books.specs.Book.{Book, clause_at}
@@ -17,28 +19,28 @@ use Rattle.plans.specs.PlanStates.{plan_of}
 use Rattle.referee.specs.DocketStates.{state_of}
 
 -- the docket's state is that of a granted open on a well-made plan and the book, and then of the calls
-pub record Reached {G B : Type 0} (K : Kind) (meaning : B → Book) (p : Plan G) (b : B) (calls : List Call) (d : Docket G B) : Type 0 where
+pub record Reached {G B : Type 0} {g : gate_kind.Ghosts G} {h : clause_book.Ghosts B} (K : Kind) (meaning : B → Book) (p : Plan G g) (b : B) (calls : List Call) (d : Docket G B g h) : Type 0 where
   pub made : WellMade K (plan_of p)
   pub granted_open : open_answer K (plan_of p) (meaning b) ≡ Ok tt
   pub ran : state_of meaning d ≡ run K (opened K (plan_of p) (meaning b)) calls
 
 -- a docket after any calls on it
-pub record DocketSound {G B : Type 0} (K : Kind) (meaning : B → Book) (p : Plan G) (b : B) (calls : List Call) (d : Docket G B) : Type 0 where
+pub record DocketSound {G B : Type 0} {g : gate_kind.Ghosts G} {h : clause_book.Ghosts B} (K : Kind) (meaning : B → Book) (p : Plan G g) (b : B) (calls : List Call) (d : Docket G B g h) : Type 0 where
   pub standing_hold : (setting : List Bool) → SettingOf (plan_of p).switches setting → T (true_under K (plan_of p) setting) → (k : ℕ) (c : List ℕ) → clause_at (meaning d.book) k ≡ Some c → T (holds (value_at (docket_values K (state_of meaning d) setting)) c)
   pub cannot_run : d.standing ≡ CannotRun → CannotBeRun K (plan_of p)
   pub runs : (k : ℕ) → d.standing ≡ Runs k → Shown K (opened K (plan_of p) (meaning b)) calls k
 
-pub record LawOfDockets (G B : Type 0) (K : Kind) (meaning : B → Book) : Type 0 where
+pub record LawOfDockets {G B : Type 0} (g : gate_kind.Ghosts G) (h : clause_book.Ghosts B) : Type 0 where
   -- begin, gate and root make well-made plans
-  pub plans : PlanCalls K
+  pub plans : PlanCalls g.kind
   -- a setting makes a complete plan true exactly if some choice of gate values makes its clauses hold, and no other does
-  pub exact : (p : Plan G) → WellMade K (plan_of p) → T (complete (plan_of p)) → (setting : List Bool) → SettingOf (plan_of p).switches setting → Exact K (plan_of p) setting
+  pub exact : (p : Plan G g) → WellMade g.kind (plan_of p) → T (complete (plan_of p)) → (setting : List Bool) → SettingOf (plan_of p).switches setting → Exact g.kind (plan_of p) setting
   -- when open is granted; what it gives is reached with no calls, and each call, or run of calls, reaches one docket from another
-  pub opens : (p : Plan G) (b : B) → Opens K (plan_of p) (meaning b)
-  pub starts : (p : Plan G) (b : B) (d : Docket G B) → WellMade K (plan_of p) → open_answer K (plan_of p) (meaning b) ≡ Ok tt → state_of meaning d ≡ opened K (plan_of p) (meaning b) → Reached K meaning p b [] d
-  pub steps : (p : Plan G) (b : B) (calls : List Call) (d e : Docket G B) (c : Call) → Reached K meaning p b calls d → state_of meaning e ≡ step K (state_of meaning d) c → Reached K meaning p b (calls ++ (c ∷ [])) e
-  pub runs : (p : Plan G) (b : B) (calls more : List Call) (d e : Docket G B) → Reached K meaning p b calls d → state_of meaning e ≡ run K (state_of meaning d) more → Reached K meaning p b (calls ++ more) e
-  pub sound : (p : Plan G) (b : B) (calls : List Call) (d : Docket G B) → Reached K meaning p b calls d → DocketSound K meaning p b calls d
+  pub opens : (p : Plan G g) (b : B) → Opens g.kind (plan_of p) (h.meaning b)
+  pub starts : (p : Plan G g) (b : B) (d : Docket G B g h) → WellMade g.kind (plan_of p) → open_answer g.kind (plan_of p) (h.meaning b) ≡ Ok tt → state_of h.meaning d ≡ opened g.kind (plan_of p) (h.meaning b) → Reached g.kind h.meaning p b [] d
+  pub steps : (p : Plan G g) (b : B) (calls : List Call) (d e : Docket G B g h) (c : Call) → Reached g.kind h.meaning p b calls d → state_of h.meaning e ≡ step g.kind (state_of h.meaning d) c → Reached g.kind h.meaning p b (calls ++ (c ∷ [])) e
+  pub runs : (p : Plan G g) (b : B) (calls more : List Call) (d e : Docket G B g h) → Reached g.kind h.meaning p b calls d → state_of h.meaning e ≡ run g.kind (state_of h.meaning d) more → Reached g.kind h.meaning p b (calls ++ more) e
+  pub sound : (p : Plan G g) (b : B) (calls : List Call) (d : Docket G B g h) → Reached g.kind h.meaning p b calls d → DocketSound g.kind h.meaning p b calls d
   -- a closed docket refuses every call
-  pub final : (d : Docket G B) → closed d.standing ≡ true → (c : Call) → Final K (state_of meaning d) c
-  pub complete_for_small : (p : Plan G) (b : B) (d : Docket G B) → Reached K meaning p b [] d → signals (plan_of p) ≤ 20 → RoomFor (signals (plan_of p)) (state_of meaning d) → CannotBeRun K (plan_of p) → Refutation K (state_of meaning d) (2 ^ signals (plan_of p))
+  pub final : (d : Docket G B g h) → closed d.standing ≡ true → (c : Call) → Final g.kind (state_of h.meaning d) c
+  pub complete_for_small : (p : Plan G g) (b : B) (d : Docket G B g h) → Reached g.kind h.meaning p b [] d → signals (plan_of p) ≤ 20 → RoomFor (signals (plan_of p)) (state_of h.meaning d) → CannotBeRun g.kind (plan_of p) → Refutation g.kind (state_of h.meaning d) (2 ^ signals (plan_of p))

@@ -6,7 +6,7 @@ use gates::GateKind;
 
 // States the law for every gate kind and every clause book: the law is this contract.
 pub fn law_of_dockets<G: GateKind, B: ClauseBook>() -> u8
-    ensures { LawOfDockets G B G.GateKind.kind B.ClauseBook.meaning }
+    ensures { LawOfDockets G.GateKind B.ClauseBook }
 {
     0
 }

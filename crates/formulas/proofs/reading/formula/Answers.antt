@@ -6,7 +6,7 @@ use Rattle.formulas.proofs.reading.formula.Goals as goal
 pub returns : goal.returns
 returns c =
     record {
-      answer = c.formula-of.ensures.answer;
-      after = c.formula-of.ensures.after;
-      exact = reads_exactly (plan_of c.args.plan.now) c.args.text.now c.formula-of.result (plan_of c.formula-of.new.plan) c.args.plan.now.sizes.1 c.formula-of.ensures.answer c.formula-of.ensures.after;
+      answer = c.formula_of.ensures.answer;
+      after = c.formula_of.ensures.after;
+      exact = reads_exactly (plan_of c.args.plan.now) c.args.text.now c.formula_of.result (plan_of c.formula_of.new.plan) c.args.plan.now.sizes.1 c.formula_of.ensures.answer c.formula_of.ensures.after;
     }

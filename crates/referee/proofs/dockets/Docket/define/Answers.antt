@@ -12,39 +12,39 @@ use Rattle.referee.proofs.DefineCases.{docket_parts, step-taken, define_refused,
 use Rattle.plans.proofs.GateCases.{one_record_more}
 use Rattle.referee.proofs.dockets.Docket.define.Goals as goal
 
-pub returns-in-err-node : goal.returns-in-err-node
-returns-in-err-node g c =
+pub returns-in_err-node : goal.returns-in_err-node
+returns-in_err-node g c =
     let K = g.G.GateKind.kind in
     let old = state_of g.B.ClauseBook.meaning c.args.self.now in
     let new = state_of g.B.ClauseBook.meaning c.meet.new.self in
-    let kept = step-taken old new _ c.in-ok-meet.ensures.answer c.in-ok-meet.ensures.after in
-    let p = err_from_is_err_and c.from-residual-in-err-node.result c.from-residual-in-err-node.ensures.1 in
-    let why = subst (λ (d : Docket). Err c.in-err-node.field-0.0 ≡ definition_answer K d c.args.signal c.args.code c.args.operands.now) kept.0 c.in-err-node.ensures in
+    let kept = step-taken old new _ c.in_ok-meet.ensures.answer c.in_ok-meet.ensures.after in
+    let p = err_from_is_err_and c.from_residual-in_err-node.result c.from_residual-in_err-node.ensures.1 in
+    let why = subst (λ (d : Docket). Err c.in_err-node.field-0.0 ≡ definition_answer K d c.args.signal c.args.code c.args.operands.now) kept.0 c.in_err-node.ensures in
     rw (p.1, p.2) record {
       answer = define_refused K old c.args.signal c.args.code c.args.operands.now kept.1 _ why;
       after = kept.0;
     }
 
-pub write-node-requires : goal.write-node-requires
-write-node-requires g c =
+pub write_node-requires : goal.write_node-requires
+write_node-requires g c =
     let K = g.G.GateKind.kind in
     let new = state_of g.B.ClauseBook.meaning c.meet.new.self in
-    room_for_definition K new c.args.signal c.args.code c.args.operands.now _ c.in-ok-node.ensures
+    room_for_definition K new c.args.signal c.args.code c.args.operands.now _ c.in_ok-node.ensures
 
-pub push-reserved-requires : goal.push-reserved-requires
-push-reserved-requires g c =
+pub push_reserved-requires : goal.push_reserved-requires
+push_reserved-requires g c =
     let K = g.G.GateKind.kind in
     let new = state_of g.B.ClauseBook.meaning c.meet.new.self in
-    let left = signals-left K new c.args.signal c.args.code c.args.operands.now _ c.in-ok-node.ensures in
+    let left = signals-left K new c.args.signal c.args.code c.args.operands.now _ c.in_ok-node.ensures in
     omega (arith, length-map (vec_items c.meet.new.self.definitions) node_of)
 
-pub invariant-of-self : goal.invariant-of-self
-invariant-of-self g c =
+pub invariant_of-self : goal.invariant_of-self
+invariant_of-self g c =
     let K = g.G.GateKind.kind in
     let new = state_of g.B.ClauseBook.meaning c.meet.new.self in
-    let left = signals-left K new c.args.signal c.args.code c.args.operands.now _ c.in-ok-node.ensures in
+    let left = signals-left K new c.args.signal c.args.code c.args.operands.now _ c.in_ok-node.ensures in
     let few = length-map (vec_items c.meet.new.self.definitions) node_of in
-    ((omega arith, omega arith), tt)
+    record { sizes = (omega arith, omega arith) }
 
 pub returns : goal.returns
 returns g c =
@@ -53,11 +53,11 @@ returns g c =
     let n = node c.args.code c.args.operands.now in
     let old = state_of g.B.ClauseBook.meaning c.args.self.now in
     let new = state_of g.B.ClauseBook.meaning c.meet.new.self in
-    let kept = step-taken old new _ c.in-ok-meet.ensures.answer c.in-ok-meet.ensures.after in
-    let checked = subst (λ (d : Docket). Ok (node_of c.in-ok-node.node) ≡ definition_answer K d z c.args.code c.args.operands.now) kept.0 c.in-ok-node.ensures in
+    let kept = step-taken old new _ c.in_ok-meet.ensures.answer c.in_ok-meet.ensures.after in
+    let checked = subst (λ (d : Docket). Ok (node_of c.in_ok-node.node) ≡ definition_answer K d z c.args.code c.args.operands.now) kept.0 c.in_ok-node.ensures in
     let made = checked_definition K old z c.args.code c.args.operands.now _ checked in
-    let nodes = one_record_more (vec_items c.meet.new.self.definitions) _ _ _ c.push-reserved.ensures.items made in
-    let books = c.write-node.ensures ∙ ap (λ m. all_written new.book (clauses_of K z m)) made in
+    let nodes = one_record_more (vec_items c.meet.new.self.definitions) _ _ _ c.push_reserved.ensures.items made in
+    let books = c.write_node.ensures ∙ ap (λ m. all_written new.book (clauses_of K z m)) made in
     record {
       answer = define_granted K old z c.args.code c.args.operands.now kept.1 _ checked;
       after = docket_parts new.standing refl nodes books ∙ ap (λ (d : Docket). defined K d z n) kept.0;

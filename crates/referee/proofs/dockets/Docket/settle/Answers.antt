@@ -5,15 +5,15 @@ use Rattle.books.specs.Book.{clause_at}
 use Rattle.referee.proofs.EventCases.{settle_refused, settle_granted}
 use Rattle.referee.proofs.dockets.Docket.settle.Goals as goal
 
-pub returns-in-err-meet : goal.returns-in-err-meet
-returns-in-err-meet g c =
-    let p = err_from_is_err_and c.from-residual.result c.from-residual.ensures.1 in
+pub returns-in_err-meet : goal.returns-in_err-meet
+returns-in_err-meet g c =
+    let p = err_from_is_err_and c.from_residual.result c.from_residual.ensures.1 in
     rw (p.1, p.2) record {
-      answer = settle_refused c.args.self.now.standing (clause_at (g.B.ClauseBook.meaning c.args.self.now.book) c.args.number) _ _ c.settling-event.ensures c.in-err-meet.ensures.answer;
-      after = c.in-err-meet.ensures.after;
+      answer = settle_refused c.args.self.now.standing (clause_at (g.B.ClauseBook.meaning c.args.self.now.book) c.args.number) _ _ c.settling-event.ensures c.in_err-meet.ensures.answer;
+      after = c.in_err-meet.ensures.after;
     }
 
 pub returns : goal.returns
 returns g c =
-    let s = settle_granted c.args.self.now.standing (clause_at (g.B.ClauseBook.meaning c.args.self.now.book) c.args.number) _ _ c.settling-event.ensures c.in-ok-meet.ensures.answer in
-    record { answer = s.0; after = c.in-ok-meet.ensures.after ∙ simp s.1 }
+    let s = settle_granted c.args.self.now.standing (clause_at (g.B.ClauseBook.meaning c.args.self.now.book) c.args.number) _ _ c.settling-event.ensures c.in_ok-meet.ensures.answer in
+    record { answer = s.0; after = c.in_ok-meet.ensures.after ∙ simp s.1 }

@@ -8,8 +8,8 @@ use Rattle.plans.specs.Demands.{fits_in}
 use Rattle.plans.specs.PlanStates.{plan_of}
 use Rattle.referee.proofs.dockets.opening.may_open.Goals as goal
 
-pub returns-then-not-is-complete : goal.returns-then-not-is-complete
-returns-then-not-is-complete g c =
+pub returns-then-not-is_complete : goal.returns-then-not-is_complete
+returns-then-not-is_complete g c =
     let growing : complete (plan_of c.args.plan.now) ≡ false = cc in
     simp growing
 
@@ -20,14 +20,14 @@ returns-then-given-ne0 g c =
     let used : eqb (given b) 0 ≡ false = ne_eqb (given b) 0 (λ e. c.if-given-ne0.true (c.given.ensures ∙ e)) in
     simp (done, used)
 
-pub returns-then-not-fits-in : goal.returns-then-not-fits-in
-returns-then-not-fits-in g c =
+pub returns-then-not-fits_in : goal.returns-then-not-fits_in
+returns-then-not-fits_in g c =
     let K = g.G.GateKind.kind in
     let p = plan_of c.args.plan.now in
     let b = g.B.ClauseBook.meaning c.args.book.now in
     let done : complete p ≡ true = cc in
     let unused : eqb (given b) 0 ≡ true = eq-eqb (given b) 0 (sym c.given.ensures ∙ c.if-given-ne0.false) in
-    let full : has_room b (plan_clauses K p) ≡ false = sym (ap (fits_in b) c.plan-demand.ensures) ∙ cc in
+    let full : has_room b (plan_clauses K p) ≡ false = sym (ap (fits_in b) c.plan_demand.ensures) ∙ cc in
     simp (done, unused, full)
 
 pub returns : goal.returns
@@ -37,5 +37,5 @@ returns g c =
     let b = g.B.ClauseBook.meaning c.args.book.now in
     let done : complete p ≡ true = cc in
     let unused : eqb (given b) 0 ≡ true = eq-eqb (given b) 0 (sym c.given.ensures ∙ c.if-given-ne0.false) in
-    let room : has_room b (plan_clauses K p) ≡ true = sym (ap (fits_in b) c.plan-demand.ensures) ∙ cc in
+    let room : has_room b (plan_clauses K p) ≡ true = sym (ap (fits_in b) c.plan_demand.ensures) ∙ cc in
     simp (done, unused, room)
