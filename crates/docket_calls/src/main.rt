@@ -1,5 +1,6 @@
 // Goes through a warm-oil plan that runs and one that cannot, on both kinds of gate and both clause books.
 #![tactic(auto)]
+
 mod transcript;
 
 use anyhow::anyhow;

@@ -1,5 +1,6 @@
 // From a text to the verdict line.
 #![tactic(auto)]
+
 pub mod judging;
 mod numbered;
 mod planning;

@@ -12,8 +12,8 @@ pub returns : goal.returns
 returns g c =
     let b = g.B.ClauseBook.meaning c.args.book in
     let text = c.args.text.now in
-    let is = c.in-ok-verdict.ensures in
-    let verdict : c.in-ok-verdict.verdict ≡ (judged b text).0 = ap (λ (x : Verdict × Book). x.0) is in (
+    let is = c.in_ok-verdict.ensures in
+    let verdict : c.in_ok-verdict.verdict ≡ (judged b text).0 = ap (λ (x : Verdict × Book). x.0) is in (
       omega arith,
       c.write.ensures.count ∙ ap (λ v. length (verdict_text v)) verdict,
       c.write.ensures.buffer ∙ ap (λ v. written_over (verdict_text v) c.args.out.now) verdict,

@@ -11,8 +11,8 @@ pub returns-in-TwoInput : goal.returns-in-TwoInput
 returns-in-TwoInput g c =
     let K = g.G.GateKind.kind in
     let p = plan_of c.args.plan.now in
-    let is = lined_formula (formula_answer K p c.args.text.now) _ _ _ c.formula-of.ensures.answer c.formula-of.ensures.after in
+    let is = lined_formula (formula_answer K p c.args.text.now) _ _ _ c.formula_of.ensures.answer c.formula_of.ensures.after in
     record {
-      becomes = subst (λ (k : PlanKind). becomes c.formula-of.result (plan_of c.formula-of.new.plan) ≡ formula_line K k p c.args.text.now) (sym c.in-TwoInput.is) is.0;
+      becomes = subst (λ (k : PlanKind). becomes c.formula_of.result (plan_of c.formula_of.new.plan) ≡ formula_line K k p c.args.text.now) (sym c.in-TwoInput.is) is.0;
       keeps = is.1;
     }
