@@ -1,5 +1,6 @@
 // Judges the plan text on standard input with the chained book, and writes the verdict line.
 #![tactic(auto)]
+
 use anyhow::anyhow;
 use books::ChainedBook;
 use books::clause_book::{MAX_CELLS, MAX_NUMBERS};

@@ -1,5 +1,6 @@
 // Judges texts with both clause books, and prints each one's name and verdict line.
 #![tactic(auto)]
+
 mod formula_texts;
 mod full_books;
 mod line_forms;

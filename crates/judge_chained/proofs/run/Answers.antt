@@ -3,8 +3,8 @@ use Rattle.std.proofs.Common.{◌≤◌, length, rules}
 use Rattle.judge.proofs.LineWithin.{front_within}
 use Rattle.judge_chained.proofs.run.Goals as goal
 
-pub slice-bounds-write-all-end : goal.slice-bounds-write-all-end
-slice-bounds-write-all-end c =
+pub slice_bounds-write_all-end : goal.slice_bounds-write_all-end
+slice_bounds-write_all-end c =
     let judges = c.in-Ok-judge.ensures in
     let within : c.in-Ok-judge.count ≤ length c.judge.new.out = front_within _ _ judges.1 judges.2 in
     search rules
