@@ -9,7 +9,7 @@ mod long_clauses;
 mod long_texts;
 mod nested_formulas;
 mod parts;
-mod plans;
+mod plan_texts;
 mod steps;
 mod verdict_texts;
 
@@ -68,7 +68,7 @@ fn show_long(rt: &HostRuntime, texts: &[(&str, &[Part])]) -> anyhow::Result<()> 
 fn run(rt: &HostRuntime) -> anyhow::Result<()> {
     show_all(rt, line_forms::texts())?;
     show_all(rt, line_places::texts())?;
-    show_all(rt, plans::texts())?;
+    show_all(rt, plan_texts::texts())?;
     show_all(rt, formula_texts::texts())?;
     show_all(rt, steps::texts())?;
     show_all(rt, verdict_texts::texts())?;
