@@ -734,7 +734,7 @@ def answer(program, text):
 
 def main():
     parser = argparse.ArgumentParser()
-    parser.add_argument("programs", nargs="*", default=["target/bin/judge_packed", "target/bin/judge_chained"])
+    parser.add_argument("programs", nargs="*", default=["crates/judge_packed/out/judge_packed", "crates/judge_chained/out/judge_chained"])
     parser.add_argument("--plain", help="the plain program; without it, it is built")
     parser.add_argument("--count", type=int, default=20000)
     parser.add_argument("--seed", type=int, default=1)

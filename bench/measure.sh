@@ -7,8 +7,12 @@ seed=${1:-1}
 work=target/bench
 mkdir -p "$work"
 if [ -z "${BIN:-}" ]; then
-    rt check judge_packed judge_chained
-    BIN=target/bin
+    BIN=$work/bin
+    mkdir -p "$BIN"
+    for program in judge_packed judge_chained; do
+        (cd "crates/$program" && rt run </dev/null >/dev/null 2>&1)
+        cp "crates/$program/out/$program" "$BIN/"
+    done
 fi
 rustc -O --edition 2021 -o "$work/plain" bench/plain.rs
 python3 bench/make_text.py --seed "$seed" >"$work/long.txt"
