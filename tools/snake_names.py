@@ -5,8 +5,7 @@ usage: python3 tools/snake_names.py [--list]      at the top of the repository, 
 
 It goes by text over crates/ (.antt, .rt, must-fail/*.edit), README.md and docs/. A name is the repository's own if an .antt file
 declares it, and not one that Rattle makes (a goal, an invariant, a measure). Names of src/, texts in quotes and the words of
-comments keep their spelling; in comments and documents a name in backticks is respelled. In a lemma's name a dash stays
-between two words that are each a definition, as in `signal-flip`.
+comments keep their spelling; in comments and documents a name in backticks is respelled. A dash stays in the names of PAIRS.
 """
 import os
 import re
@@ -20,8 +19,18 @@ RECORD = re.compile(r"^\s*(?:pub\s+)?(?:record|data)\s+(" + PART + r"(?:-[\w'ℕ
 OTHERS = {"Cannot-run": "CannotBeRun"}
 # a fact that the kit's script spelled as a function
 FACTS = {"Laid_out": "LaidOut"}
-# functions of std that lemmas here speak of
-STD = {"length", "append", "take", "drop", "map", "set", "not", "get_or", "sum"}
+# lemmas on one function of another, whose names keep the dash between the two
+PAIRS = {
+    "all_hold-append", "all_written-append", "end_to_end-append", "flip-flip", "holds-insert", "holds-insert_all", "holds-put_in",
+    "length-end_to_end", "length-insert", "length-insert_all", "literal_count-append", "literal_value-flip", "signal-flip",
+    "times-append", "total_size-set",
+}
+# names inside one proof or one file, which no signature declares
+INNER = {
+    "after-count", "after-number", "after-words", "c-is", "d-is", "f-is", "l-is", "n-is", "out-is", "gs-are", "numbers-are", "empty-chain",
+    "formula-law", "full-tree", "granted-calls", "is-gates", "is-switches", "literal-is", "own-l", "own-r", "there-l", "there-r",
+    "short-left", "short-right", "spelt-lines", "was-left", "was-right", "read-formula",
+}
 CODE = re.compile(r'"(?:[^"\\\n]|\\.)*"|--[^\n]*|//[^\n]*|`[^`\n]*`|' + NAME.pattern + r"|.", re.S)
 
 
@@ -41,8 +50,8 @@ def read(path):
 
 
 def declared(root):
-    """(all names that .antt files declare, those of specs/ that are functions, names that Rattle makes)"""
-    own, spec, made = set(), set(), set()
+    """(the names that .antt files declare, those of goals that Rattle makes)"""
+    own, made = set(), set()
     for p in files(root):
         if not p.endswith(".antt"):
             continue
@@ -61,32 +70,17 @@ def declared(root):
                     made.add(n)
                 else:
                     own.add(n)
-                    if "/specs/" in p:
-                        spec.add(n)
-    return own - made, spec, made
+    return own - made, made
 
 
-def respelled(name, spec):
+def respelled(name):
     if name in OTHERS:
         return OTHERS[name]
     name = name.replace("getD", "get_or")
     words = name.split("-")
     if name[0].isupper():
         return "".join(w[0].upper() + w[1:] for w in words)
-    plain = "_".join(words)
-    if name in spec:
-        return plain
-    known = {s.replace("-", "_") for s in spec if not s[0].isupper()} | STD
-    parts, i = [], 0
-    while i < len(words):
-        for j in range(len(words), i, -1):
-            if "_".join(words[i:j]) in known:
-                parts.append("_".join(words[i:j]))
-                i = j
-                break
-        else:
-            return plain
-    return "-".join(parts)
+    return next((p for p in PAIRS if p.replace("_", "-") == name.replace("_", "-")), "_".join(words))
 
 
 def turn(text, names, code):
@@ -102,6 +96,8 @@ def turn(text, names, code):
             return re.sub(r"`[^`\n]*`", lambda q: NAME.sub(word, q.group(0)), t)
         if t.startswith("`"):
             return NAME.sub(word, t)
+        if t in INNER and text[m.start() - 1:m.start()] == ".":
+            return t  # a field that Rattle makes
         return names.get(t, t) if code else t
 
     return CODE.sub(one, text)
@@ -109,8 +105,8 @@ def turn(text, names, code):
 
 def main():
     root = os.getcwd()
-    own, spec, made = declared(root)
-    names = {n: respelled(n, spec) for n in own if "-" in n}
+    own, made = declared(root)
+    names = {n: respelled(n) for n in own | INNER if "-" in n}
     names = {a: b for a, b in names.items() if a != b} | FACTS
     taken = {}
     for a, b in sorted(names.items()):

@@ -47,18 +47,18 @@ numbered b (suc i) c e = elim (cases_lt i (length b.slots)) [
 
 -- writing
 module _ (b : Book) (c : List ℕ) where
-  pub written-given : given (written b c) ≡ given b + 1
+  pub written_given : given (written b c) ≡ given b + 1
   unfolding given written
-  written-given = length_push b.slots (Some c)
+  written_given = length_push b.slots (Some c)
 
   pub written_stands : clause_at (written b c) (given b + 1) ≡ Some c
   unfolding given written
   written_stands = rw (add-one, clause_at_suc) (get_or_push b.slots (Some c) None (length b.slots) refl)
 
-  pub written-others : (k : ℕ) → k ≢ given b + 1 → clause_at (written b c) k ≡ clause_at b k
+  pub written_others : (k : ℕ) → k ≢ given b + 1 → clause_at (written b c) k ≡ clause_at b k
   unfolding given written
-  written-others zero ne = clause_at_zero (written b c) ∙ sym (clause_at_zero b)
-  written-others (suc i) ne = clause_at_suc (written b c) i ∙ same ∙ sym (clause_at_suc b i)
+  written_others zero ne = clause_at_zero (written b c) ∙ sym (clause_at_zero b)
+  written_others (suc i) ne = clause_at_suc (written b c) i ∙ same ∙ sym (clause_at_suc b i)
     where
       same : get_or (b.slots ++ (Some c ∷ [])) i None ≡ get_or b.slots i None
       same = elim (cases_lt i (length b.slots)) [
@@ -66,61 +66,61 @@ module _ (b : Book) (c : List ℕ) where
         | inr le ↦ get_or_past (b.slots ++ (Some c ∷ [])) i None (rw length_push (omega (arith, ne))) ∙ sym (get_or_past b.slots i None le)
       ]
 
-  pub written-free_numbers : 1 ≤ free_numbers b → free_numbers (written b c) + 1 ≡ free_numbers b
+  pub written_free_numbers : 1 ≤ free_numbers b → free_numbers (written b c) + 1 ≡ free_numbers b
   unfolding free_numbers written
-  written-free_numbers h = rw length_push (omega arith)
+  written_free_numbers h = rw length_push (omega arith)
 
-  pub written-free_cells : length c ≤ free_cells b → free_cells (written b c) + length c ≡ free_cells b
+  pub written_free_cells : length c ≤ free_cells b → free_cells (written b c) + length c ≡ free_cells b
   unfolding free_cells written
-  written-free_cells h = rw total_size_push (omega arith)
+  written_free_cells h = rw total_size_push (omega arith)
 
   pub written_law : WrittenLaw b c
   written_law = record {
-    one_more = written-given;
+    one_more = written_given;
     stands = written_stands;
-    others = written-others;
-    number_taken = written-free_numbers;
-    cells_taken = written-free_cells;
+    others = written_others;
+    number_taken = written_free_numbers;
+    cells_taken = written_free_cells;
   }
 
 -- striking
-pub struck-given : (b : Book) (k : ℕ) → given (struck b k) ≡ given b
+pub struck_given : (b : Book) (k : ℕ) → given (struck b k) ≡ given b
 unfolding given struck
-struck-given b k = length-set b.slots (k - 1) None
+struck_given b k = length-set b.slots (k - 1) None
 
-pub struck-gone : (b : Book) (k : ℕ) → clause_at (struck b k) k ≡ None
+pub struck_gone : (b : Book) (k : ℕ) → clause_at (struck b k) k ≡ None
 unfolding struck
-struck-gone b zero = clause_at_zero (struck b 0)
-struck-gone b (suc i) = rw (clause_at_suc, sub-one) (elim (cases_lt i (length b.slots)) [
+struck_gone b zero = clause_at_zero (struck b 0)
+struck_gone b (suc i) = rw (clause_at_suc, sub-one) (elim (cases_lt i (length b.slots)) [
   | inl lt ↦ get_or-set_same b.slots i None None lt
   | inr le ↦ rw (set_past b.slots i None le) (get_or_past b.slots i None le)
 ])
 
-pub struck-others : (b : Book) (k : ℕ) → 1 ≤ k → (j : ℕ) → j ≢ k → clause_at (struck b k) j ≡ clause_at b j
+pub struck_others : (b : Book) (k : ℕ) → 1 ≤ k → (j : ℕ) → j ≢ k → clause_at (struck b k) j ≡ clause_at b j
 unfolding struck
-struck-others b k h zero ne = clause_at_zero (struck b k) ∙ sym (clause_at_zero b)
-struck-others b k h (suc i) ne =
+struck_others b k h zero ne = clause_at_zero (struck b k) ∙ sym (clause_at_zero b)
+struck_others b k h (suc i) ne =
     clause_at_suc (struck b k) i ∙ get_or-set_other b.slots (k - 1) i None None (omega (arith, ne)) ∙ sym (clause_at_suc b i)
 
-pub struck-free_numbers : (b : Book) (k : ℕ) → free_numbers (struck b k) ≡ free_numbers b
+pub struck_free_numbers : (b : Book) (k : ℕ) → free_numbers (struck b k) ≡ free_numbers b
 unfolding free_numbers struck
-struck-free_numbers b k = ap (λ n. b.numbers - n) (length-set b.slots (k - 1) None)
+struck_free_numbers b k = ap (λ n. b.numbers - n) (length-set b.slots (k - 1) None)
 
-pub struck-free_cells : (b : Book) (k : ℕ) (c : List ℕ) → clause_at b k ≡ Some c → standing_literals b ≤ b.cells
+pub struck_free_cells : (b : Book) (k : ℕ) (c : List ℕ) → clause_at b k ≡ Some c → standing_literals b ≤ b.cells
     → free_cells (struck b k) ≡ free_cells b + length c
 unfolding free_cells standing_literals struck
-struck-free_cells b zero c e h = absurd (omega (arith, numbered b 0 c e))
-struck-free_cells b (suc i) c e h =
+struck_free_cells b zero c e h = absurd (omega (arith, numbered b 0 c e))
+struck_free_cells b (suc i) c e h =
     let t = rw (sym (clause_at_suc b i) ∙ e) at (total_size-set b.slots i) in
     rw sub-one (omega arith)
 
 pub struck_law : (b : Book) (k : ℕ) (c : List ℕ) → clause_at b k ≡ Some c → StruckLaw b k c
 struck_law b k c e = record {
-  as_many = struck-given b k;
-  gone = struck-gone b k;
-  others = struck-others b k (numbered b k c e).0;
-  numbers_stay = struck-free_numbers b k;
-  cells_back = struck-free_cells b k c e;
+  as_many = struck_given b k;
+  gone = struck_gone b k;
+  others = struck_others b k (numbered b k c e).0;
+  numbers_stay = struck_free_numbers b k;
+  cells_back = struck_free_cells b k c e;
 }
 
 pub book_law : BookLaw

@@ -12,8 +12,8 @@ use Rattle.books.specs.Book.{Book, slot_size, given, clause_at, standing_literal
 use Rattle.books.specs.Promise.{Sized, literal_answer, max_numbers, max_cells}
 use Rattle.books.specs.Chained.{cells_of, cell_at, chain, ends, literals_in, chained, head_at, Sound, Short, Parted}
 use Rattle.books.proofs.BookLaws.{clause_at_zero, clause_at_suc}
-use Rattle.books.proofs.ChainedLinks.{chain-at}
-use Rattle.books.proofs.ChainedHeads.{get_or_map_any, front_within, slot_row, cells-shared, Apart, apart, Left, writing, striking}
+use Rattle.books.proofs.ChainedLinks.{chain_at}
+use Rattle.books.proofs.ChainedHeads.{get_or_map_any, front_within, slot_row, cells_shared, Apart, apart, Left, writing, striking}
 use Rattle.books.proofs.BookAnswers.{ok_some, err_none}
 
 -- what stands under a number is what its chain holds
@@ -29,7 +29,7 @@ clause_held cs hs t k = ap (λ o. cond (eqb k 0) None o) (get_or_map_any (option
 module _ (cs : List Cell) (hs : List (Option ℕ)) (t free : ℕ) (sound : Sound cs (Some free ∷ hs)) (short : Short cs hs) where
   standing_few : standing_literals (chained cs hs t) ≤ length cs
   unfolding standing_literals
-  standing_few = omega (arith, cells-shared cs hs free sound)
+  standing_few = omega (arith, cells_shared cs hs free sound)
 
   short_clause : (k : ℕ) (c : List ℕ) → clause_at (chained cs hs t) k ≡ Some c → length c ≤ max_literals
   short_clause zero c e = let n = clause_at_zero (chained cs hs t) in let z : ◌≡◌ {A = ℕ} 0 1 = cc in absurd (omega arith)
@@ -57,7 +57,7 @@ module _ (b : ChainedBook) where
 
   pub standing_is : b.spare + standing_literals meaning_of ≡ length (cells_of b.table)
   unfolding standing_literals
-  standing_is = let spare = b.keeps.0 in omega (arith, cells-shared (cells_of b.table) (vec_items b.heads) b.free b.sound)
+  standing_is = let spare = b.keeps.0 in omega (arith, cells_shared (cells_of b.table) (vec_items b.heads) b.free b.sound)
 
   pub free_numbers_is : free_numbers meaning_of ≡ b.numbers - vec_len b.heads
   unfolding given free_numbers
@@ -105,14 +105,14 @@ missing b k r e =
 module _ (cs : List Cell) (h p cell : ℕ) (goes : ends cs h ≡ true) (at : cell ≡ get_or (chain cs h) p 0) where
   pub no_cell : cell ≡ 0 → literal_answer (Some (literals_in cs h)) p ≡ Err NoClause
   no_cell z = elim (cases_lt p (length (chain cs h))) [
-    | inl lt ↦ absurd (omega (arith, (chain-at cs h p goes lt).0))
+    | inl lt ↦ absurd (omega (arith, (chain_at cs h p goes lt).0))
     | inr le ↦ rw (le-ltb p (length (literals_in cs h)) (omega (arith, length-map (chain cs h) (λ i. (cell_at cs i).literal))))
   ]
 
   pub some_cell : cell ≢ 0 → (0 < cell) × (cell ≤ length cs) × (literal_answer (Some (literals_in cs h)) p ≡ Ok (cell_at cs cell).literal)
   some_cell ne = elim (cases_lt p (length (chain cs h))) [
     | inl lt ↦
-        let c = chain-at cs h p goes lt in
+        let c = chain_at cs h p goes lt in
         let read = get_or-map (λ i. (cell_at cs i).literal) (chain cs h) p 0 0 lt in (
           omega arith,
           omega arith,
@@ -124,9 +124,9 @@ module _ (cs : List Cell) (h p cell : ℕ) (goes : ends cs h ≡ true) (at : cel
 
 -- a clause written
 module _ (b : ChainedBook) (c : List ℕ) (ds : List Cell) (hs : List (Option ℕ)) (free : ℕ) where
-  pub written-left : (first : ℕ) → Parted (cells_of b.table) ds (chain (cells_of b.table) b.free) free first → literals_in ds first ≡ c → length c ≤ max_literals
+  pub written_left : (first : ℕ) → Parted (cells_of b.table) ds (chain (cells_of b.table) b.free) free first → literals_in ds first ≡ c → length c ≤ max_literals
       → hs ≡ vec_items b.heads ++ (Some first ∷ []) → Left ds hs free (length (chain (cells_of b.table) b.free) - length c) ((meaning_of b).slots ++ (Some c ∷ []))
-  written-left first p reads few e = rw e (writing (cells_of b.table) ds (vec_items b.heads) c b.free first free b.sound b.short p reads few)
+  written_left first p reads few e = rw e (writing (cells_of b.table) ds (vec_items b.heads) c b.free first free b.sound b.short p reads few)
 
   pub written_means : (many : ℕ) → length ds ≡ length (cells_of b.table) → Left ds hs free many ((meaning_of b).slots ++ (Some c ∷ []))
       → chained ds hs b.numbers ≡ written (meaning_of b) c
@@ -135,10 +135,10 @@ module _ (b : ChainedBook) (c : List ℕ) (ds : List Cell) (hs : List (Option �
 
 -- a clause struck
 module _ (b : ChainedBook) (k h : ℕ) (f : Found b k h) (ds : List Cell) (free : ℕ) where
-  pub struck-left : Parted (cells_of b.table) ds (chain (cells_of b.table) h ++ chain (cells_of b.table) b.free) 0 free
+  pub struck_left : Parted (cells_of b.table) ds (chain (cells_of b.table) h ++ chain (cells_of b.table) b.free) 0 free
       → Left ds (set (vec_items b.heads) (k - 1) None) free (length (chain (cells_of b.table) b.free) + length (chain (cells_of b.table) h))
       (set (meaning_of b).slots (k - 1) None)
-  struck-left p = striking (cells_of b.table) ds (vec_items b.heads) (k - 1) h b.free free b.sound b.short f.head p
+  struck_left p = striking (cells_of b.table) ds (vec_items b.heads) (k - 1) h b.free free b.sound b.short f.head p
 
   pub struck_means : (many : ℕ) → length ds ≡ length (cells_of b.table)
       → Left ds (set (vec_items b.heads) (k - 1) None) free many (set (meaning_of b).slots (k - 1) None)

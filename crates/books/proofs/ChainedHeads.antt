@@ -9,7 +9,7 @@ use Rattle.clauses.specs.Limits.{max_literals}
 use Rattle.books.specs.declared.cells.Cell.{Cell}
 use Rattle.books.specs.Book.{slot_size, total_size}
 use Rattle.books.specs.Chained.{unused_cell, unused, cell_at, chain, ends, times, row, row_ends, Sound, Short, literals_in, Parted}
-use Rattle.books.proofs.ChainedLinks.{times_cons, times_here, times-append, chain-none, chain_cons, chain-kept}
+use Rattle.books.proofs.ChainedLinks.{times_cons, times_here, times-append, chain_none, chain_cons, chain_kept}
 
 -- a list mapped, read at any place
 pub get_or_map_any : {X Y : Type 0} (f : X → Y) (xs : List X) (i : ℕ) (d : X) → get_or (map f xs) i (f d) ≡ f (get_or xs i d)
@@ -43,14 +43,14 @@ front_within hs k h e = elim (cases_lt k (length hs)) [
 
 -- a sum over the chains, when one more comes first or last, or one is taken out
 module _ (f : List ℕ → ℕ) (cs : List Cell) (hs : List (Option ℕ)) where
-  sum-before : (h : ℕ) → sum_by f (map (row cs) (Some h ∷ hs)) ≡ f (chain cs h) + sum_by f (map (row cs) hs)
-  sum-before h = sum_by-cons f (chain cs h) (map (row cs) hs)
+  sum_before : (h : ℕ) → sum_by f (map (row cs) (Some h ∷ hs)) ≡ f (chain cs h) + sum_by f (map (row cs) hs)
+  sum_before h = sum_by-cons f (chain cs h) (map (row cs) hs)
 
-  sum-after : (h : ℕ) → sum_by f (map (row cs) (hs ++ (Some h ∷ []))) ≡ sum_by f (map (row cs) hs) + f (chain cs h)
-  sum-after h = ap (sum_by f) (map_push (row cs) hs (Some h)) ∙ sum_by_push f (map (row cs) hs) (chain cs h)
+  sum_after : (h : ℕ) → sum_by f (map (row cs) (hs ++ (Some h ∷ []))) ≡ sum_by f (map (row cs) hs) + f (chain cs h)
+  sum_after h = ap (sum_by f) (map_push (row cs) hs (Some h)) ∙ sum_by_push f (map (row cs) hs) (chain cs h)
 
-  sum-without : (k h : ℕ) → f [] ≡ 0 → get_or hs k None ≡ Some h → sum_by f (map (row cs) (set hs k None)) + f (chain cs h) ≡ sum_by f (map (row cs) hs)
-  sum-without k h z e =
+  sum_without : (k h : ℕ) → f [] ≡ 0 → get_or hs k None ≡ Some h → sum_by f (map (row cs) (set hs k None)) + f (chain cs h) ≡ sum_by f (map (row cs) hs)
+  sum_without k h z e =
       let within = front_within hs k h e in
       let many = length-map hs (row cs) in
       let at = ap f (get_or_map_any (row cs) hs k None ∙ ap (row cs) e) in
@@ -67,13 +67,13 @@ standing_rows cs [] = refl
 standing_rows cs (o ∷ hs) = omega (arith, standing_rows cs hs, slot_row cs o, sum_by-cons length (row cs o) (map (row cs) hs))
 
 -- with the free cells they are all
-pub cells-shared : (cs : List Cell) (hs : List (Option ℕ)) (free : ℕ) → Sound cs (Some free ∷ hs)
+pub cells_shared : (cs : List Cell) (hs : List (Option ℕ)) (free : ℕ) → Sound cs (Some free ∷ hs)
     → length (chain cs free) + total_size (map (option_map (literals_in cs)) hs) ≡ length cs
-cells-shared cs hs free s = let all = s.2 in omega (arith, standing_rows cs hs, sum-before length cs hs free)
+cells_shared cs hs free s = let all = s.2 in omega (arith, standing_rows cs hs, sum_before length cs hs free)
 
 -- no cell is free twice
 pub free_once : (cs : List Cell) (hs : List (Option ℕ)) (free : ℕ) → Sound cs (Some free ∷ hs) → (i : ℕ) → times i (chain cs free) ≤ 1
-free_once cs hs free s i = let most = s.1 i in omega (arith, sum-before (times i) cs hs free)
+free_once cs hs free s i = let most = s.1 i in omega (arith, sum_before (times i) cs hs free)
 
 -- a clause and the free cells have no cell in common
 pub record Apart (cs : List Cell) (h free : ℕ) : Type 0 where
@@ -82,8 +82,8 @@ pub record Apart (cs : List Cell) (h free : ℕ) : Type 0 where
 
 pub apart : (cs : List Cell) (hs : List (Option ℕ)) (free k h : ℕ) → Sound cs (Some free ∷ hs) → get_or hs k None ≡ Some h → Apart cs h free
 apart cs hs free k h s e = record {
-  once = λ i. let most = s.1 i in omega (arith, times-append i (chain cs h) (chain cs free), sum-before (times i) cs hs free, sum-without (times i) cs hs k h refl e);
-  room = let all = s.2 in omega (arith, length-append (chain cs h) (chain cs free), sum-before length cs hs free, sum-without length cs hs k h refl e);
+  once = λ i. let most = s.1 i in omega (arith, times-append i (chain cs h) (chain cs free), sum_before (times i) cs hs free, sum_without (times i) cs hs k h refl e);
+  room = let all = s.2 in omega (arith, length-append (chain cs h) (chain cs free), sum_before length cs hs free, sum_without length cs hs k h refl e);
 }
 
 -- the chains stay as they are where their cells do
@@ -95,7 +95,7 @@ record RowsKept (cs ds : List Cell) (hs : List (Option ℕ)) : Type 0 where
 row_kept : (cs ds : List Cell) (o : Option ℕ) → length ds ≡ length cs → row_ends cs o ≡ true → ((i : ℕ) → 0 < i → 0 < times i (row cs o) → cell_at ds i ≡ cell_at cs i)
     → (row_ends ds o ≡ true) × (row ds o ≡ row cs o) × (option_map (literals_in ds) o ≡ option_map (literals_in cs) o)
 row_kept cs ds None size e same = (refl, refl, refl)
-row_kept cs ds (Some h) size e same = let k = chain-kept cs ds h size same e in (k.ends_still, k.is, ap Some k.reads)
+row_kept cs ds (Some h) size e same = let k = chain_kept cs ds h size same e in (k.ends_still, k.is, ap Some k.reads)
 
 rows_kept : (cs ds : List Cell) (hs : List (Option ℕ)) → length ds ≡ length cs → ((k : ℕ) → row_ends cs (get_or hs k None) ≡ true)
     → ((i : ℕ) → 0 < i → 0 < sum_by (times i) (map (row cs) hs) → cell_at ds i ≡ cell_at cs i) → RowsKept cs ds hs
@@ -109,8 +109,8 @@ rows_kept cs ds (o ∷ hs) size e same =
       reads = ap₂ ◌∷◌ k.2 r.reads;
     }
 
-short-kept : (cs ds : List Cell) (hs : List (Option ℕ)) → RowsKept cs ds hs → Short cs hs → Short ds hs
-short-kept cs ds hs r s k =
+short_kept : (cs ds : List Cell) (hs : List (Option ℕ)) → RowsKept cs ds hs → Short cs hs → Short ds hs
+short_kept cs ds hs r s k =
     let same = ap length (sym (get_or_map_any (row ds) hs k None) ∙ ap (λ is. get_or is k []) r.is ∙ get_or_map_any (row cs) hs k None) in
     let most = s k in
     omega arith
@@ -130,7 +130,7 @@ writing cs ds hs c free first free' s short p reads few =
     let gs = hs ++ (Some first ∷ []) in
     let both = p.as_many in
     let long = ap length reads in
-    let kept = rows_kept cs ds hs p.size (λ k. s.0 (suc k)) (λ i pos n. p.others i pos (let most = s.1 i in omega (arith, sum-before (times i) cs hs free))) in
+    let kept = rows_kept cs ds hs p.size (λ k. s.0 (suc k)) (λ i pos n. p.others i pos (let most = s.1 i in omega (arith, sum_before (times i) cs hs free))) in
     record {
       sound = (
         each_cons (λ o. row_ends ds o ≡ true) (Some free') gs p.ends_a (each_push (λ o. row_ends ds o ≡ true) hs (Some first) refl kept.ends_still p.ends_b),
@@ -138,13 +138,13 @@ writing cs ds hs c free first free' s short p reads few =
             let most = s.1 i in
             let shared = p.shared i in
             let same = ap (sum_by (times i)) kept.is in
-            omega (arith, sum-before (times i) cs hs free, sum-before (times i) ds gs free', sum-after (times i) ds hs first)),
+            omega (arith, sum_before (times i) cs hs free, sum_before (times i) ds gs free', sum_after (times i) ds hs first)),
         (let all = s.2 in
             let same = ap (sum_by length) kept.is in
             let size = p.size in
-            omega (arith, sum-before length cs hs free, sum-before length ds gs free', sum-after length ds hs first)),
+            omega (arith, sum_before length cs hs free, sum_before length ds gs free', sum_after length ds hs first)),
       );
-      short = each_push (λ o. length (row ds o) ≤ max_literals) hs (Some first) (omega arith) (short-kept cs ds hs kept short) (omega (arith, slot_row ds (Some first)));
+      short = each_push (λ o. length (row ds o) ≤ max_literals) hs (Some first) (omega arith) (short_kept cs ds hs kept short) (omega (arith, slot_row ds (Some first)));
       spare = omega (arith, slot_row ds (Some first));
       means = map_push (option_map (literals_in ds)) hs (Some first) ∙ ap₂ (λ os d. os ++ (Some d ∷ [])) kept.reads reads;
     }
@@ -155,13 +155,13 @@ pub striking : (cs ds : List Cell) (hs : List (Option ℕ)) (k h free free' : �
     → Left ds (set hs k None) free' (length (chain cs free) + length (chain cs h)) (set (map (option_map (literals_in cs)) hs) k None)
 striking cs ds hs k h free free' s short e p =
     let gs = set hs k None in
-    let none = (chain-none ds).1 in
+    let none = (chain_none ds).1 in
     let both = p.as_many in
-    let empty-chain = ap length none in
+    let empty_chain = ap length none in
     let kept = rows_kept cs ds gs p.size (each_set (λ o. row_ends cs o ≡ true) hs k None refl (λ j. s.0 (suc j)))
     (λ i pos n. p.others i pos
     (let most = s.1 i in
-    omega (arith, times-append i (chain cs h) (chain cs free), sum-before (times i) cs hs free, sum-without (times i) cs hs k h refl e))) in
+    omega (arith, times-append i (chain cs h) (chain cs free), sum_before (times i) cs hs free, sum_without (times i) cs hs k h refl e))) in
     record {
       sound = (
         each_cons (λ o. row_ends ds o ≡ true) (Some free') gs p.ends_b kept.ends_still,
@@ -170,13 +170,13 @@ striking cs ds hs k h free free' s short e p =
             let shared = p.shared i in
             let same = ap (sum_by (times i)) kept.is in
             let nowhere = ap (times i) none in
-            omega (arith, times-append i (chain cs h) (chain cs free), sum-before (times i) cs hs free, sum-without (times i) cs hs k h refl e, sum-before (times i) ds gs free')),
+            omega (arith, times-append i (chain cs h) (chain cs free), sum_before (times i) cs hs free, sum_without (times i) cs hs k h refl e, sum_before (times i) ds gs free')),
         (let all = s.2 in
             let same = ap (sum_by length) kept.is in
             let size = p.size in
-            omega (arith, length-append (chain cs h) (chain cs free), sum-before length cs hs free, sum-without length cs hs k h refl e, sum-before length ds gs free')),
+            omega (arith, length-append (chain cs h) (chain cs free), sum_before length cs hs free, sum_without length cs hs k h refl e, sum_before length ds gs free')),
       );
-      short = short-kept cs ds gs kept (each_set (λ o. length (row cs o) ≤ max_literals) hs k None (omega arith) short);
+      short = short_kept cs ds gs kept (each_set (λ o. length (row cs o) ≤ max_literals) hs k None (omega arith) short);
       spare = omega (arith, length-append (chain cs h) (chain cs free));
       means = kept.reads ∙ map-set (option_map (literals_in cs)) hs k None;
     }
@@ -190,7 +190,7 @@ record Falling (n m : ℕ) : Type 0 where
 
 falling : (n m : ℕ) → m ≤ n → Falling n m
 falling n zero le =
-    let none = chain-none (unused n) in
+    let none = chain_none (unused n) in
     record { goes = none.0; long = ap length none.1; once = λ i. rw none.1 (omega arith); above = λ i lt. ap (times i) none.1 }
 falling n (suc m) le =
     let cs = unused n in
@@ -227,8 +227,8 @@ unwritten cs hs n e f =
     rw (e, f) (record {
       sound = (
         each_cons (λ o. row_ends (unused n) o ≡ true) (Some n) [] r.goes (λ k. refl),
-        (λ i. omega (arith, r.once i, sum-before (times i) (unused n) [] n)),
-        omega (arith, sum-before length (unused n) [] n),
+        (λ i. omega (arith, r.once i, sum_before (times i) (unused n) [] n)),
+        omega (arith, sum_before length (unused n) [] n),
       );
       short = λ k. omega arith;
       spare = omega arith;

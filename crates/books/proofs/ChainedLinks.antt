@@ -41,9 +41,9 @@ follow_linked (suc n) cs h (i ∷ is) (a, b, c, d) le =
     let q = ne_eqb h 0 (λ z. omega arith) in
     (rw q (and_from _ _ (le-leb h (length cs) (omega arith)) r.0), rw q (ap₂ ◌∷◌ a r.1))
 
-follow-short : (n : ℕ) (cs : List Cell) (h : ℕ) → length (follow n cs h) ≤ n
-follow-short zero cs h = omega arith
-follow-short (suc n) cs h = let s = follow-short n cs (cell_at cs h).next in
+follow_short : (n : ℕ) (cs : List Cell) (h : ℕ) → length (follow n cs h) ≤ n
+follow_short zero cs h = omega arith
+follow_short (suc n) cs h = let s = follow_short n cs (cell_at cs h).next in
     elim (eqb h 0) as (λ b. length (cond b [] (h ∷ follow n cs (cell_at cs h).next)) ≤ suc n) [ true ↦ omega arith | false ↦ omega arith ]
 
 -- a chain and the lists that are linked
@@ -55,12 +55,12 @@ chain_linked : (cs : List Cell) (h : ℕ) (is : List ℕ) → Linked cs h is →
 unfolding chain ends
 chain_linked cs h is l le = follow_linked (length cs) cs h is l le
 
-pub chain-short : (cs : List Cell) (h : ℕ) → length (chain cs h) ≤ length cs
+pub chain_short : (cs : List Cell) (h : ℕ) → length (chain cs h) ≤ length cs
 unfolding chain
-chain-short cs h = follow-short (length cs) cs h
+chain_short cs h = follow_short (length cs) cs h
 
-pub chain-none : (cs : List Cell) → (ends cs 0 ≡ true) × (chain cs 0 ≡ [])
-chain-none cs = chain_linked cs 0 [] refl (omega arith)
+pub chain_none : (cs : List Cell) → (ends cs 0 ≡ true) × (chain cs 0 ≡ [])
+chain_none cs = chain_linked cs 0 [] refl (omega arith)
 
 -- a cell of a chain, and the chain from the next one
 pub record Next (cs : List Cell) (h : ℕ) : Type 0 where
@@ -75,7 +75,7 @@ chain_next cs h e ne = go (chain cs h) refl (linked_chain cs h e)
     go : (is : List ℕ) → chain cs h ≡ is → Linked cs h is → Next cs h
     go [] q l = absurd (ne l)
     go (i ∷ is) q (a, b, c, d) =
-        let short = chain-short cs h in
+        let short = chain_short cs h in
         let long = ap length q in
         let r = chain_linked cs (cell_at cs h).next is (rw a d) (omega arith) in
         record { pos = omega arith; within = omega arith; rest = r.0; is = q ∙ ap₂ ◌∷◌ (sym a) (sym r.1) }
@@ -91,14 +91,14 @@ linked_at cs h [] p l lt = absurd (omega arith)
 linked_at cs h (i ∷ is) zero (a, b, c, d) lt = (b, c)
 linked_at cs h (i ∷ is) (suc p) (a, b, c, d) lt = linked_at cs (cell_at cs i).next is p d (omega arith)
 
-pub chain-at : (cs : List Cell) (h p : ℕ) → ends cs h ≡ true → p < length (chain cs h) → (0 < get_or (chain cs h) p 0) × (get_or (chain cs h) p 0 ≤ length cs)
-chain-at cs h p e lt = linked_at cs h (chain cs h) p (linked_chain cs h e) lt
+pub chain_at : (cs : List Cell) (h p : ℕ) → ends cs h ≡ true → p < length (chain cs h) → (0 < get_or (chain cs h) p 0) × (get_or (chain cs h) p 0 ≤ length cs)
+chain_at cs h p e lt = linked_at cs h (chain cs h) p (linked_chain cs h e) lt
 
 -- a walk along a chain
 pub chain_first : (cs : List Cell) (h : ℕ) → ends cs h ≡ true → get_or (chain cs h) 0 0 ≡ h
 chain_first cs h e =
     elim (cases_eq h 0) [
-      | inl z ↦ rw (z, (chain-none cs).1)
+      | inl z ↦ rw (z, (chain_none cs).1)
       | inr ne ↦ ap (λ is. get_or is 0 0) (chain_next cs h e ne).is
     ]
 
@@ -122,11 +122,11 @@ linked_kept cs ds h (i ∷ is) size same (a, b, c, d) =
     let r = linked_kept cs ds (cell_at cs i).next is size (λ j pos n. same j pos (omega (arith, times_cons j i is))) d in
     ((a, b, omega arith, rw e r.0), ap₂ ◌∷◌ (ap (λ (x : Cell). x.literal) e) r.1)
 
-pub chain-kept : (cs ds : List Cell) (h : ℕ) → length ds ≡ length cs → ((i : ℕ) → 0 < i → 0 < times i (chain cs h) → cell_at ds i ≡ cell_at cs i)
+pub chain_kept : (cs ds : List Cell) (h : ℕ) → length ds ≡ length cs → ((i : ℕ) → 0 < i → 0 < times i (chain cs h) → cell_at ds i ≡ cell_at cs i)
     → ends cs h ≡ true → Kept cs ds h
-chain-kept cs ds h size same e =
+chain_kept cs ds h size same e =
     let l = linked_kept cs ds h (chain cs h) size same (linked_chain cs h e) in
-    let short = chain-short cs h in
+    let short = chain_short cs h in
     let r = chain_linked ds h (chain cs h) l.0 (omega arith) in
     record { ends_still = r.0; is = r.1; reads = ap (map (λ i. (cell_at ds i).literal)) r.1 ∙ l.1 }
 
@@ -137,7 +137,7 @@ module _ (cs : List Cell) (a : ℕ) (c : Cell) (pos : 0 < a) where
 
   pub chain_besides : (h : ℕ) → times a (chain cs h) ≡ 0 → ends cs h ≡ true → Kept cs (with_cell cs a c) h
   chain_besides h out e =
-      chain-kept cs (with_cell cs a c) h (length-set cs (a - 1) c)
+      chain_kept cs (with_cell cs a c) h (length-set cs (a - 1) c)
       (λ i ipos n. cell_other i ipos (λ q. let z = ap (λ j. times j (chain cs h)) q in omega arith)) e
 
 -- a cell is put before a chain in which it is not
@@ -146,9 +146,9 @@ pub record Before (cs : List Cell) (a x h : ℕ) : Type 0 where
   pub is : chain (with_cell cs a (record { literal = x; next = h })) a ≡ a ∷ chain cs h
   pub reads : literals_in (with_cell cs a (record { literal = x; next = h })) a ≡ x ∷ literals_in cs h
 
-pub chain-before : (cs : List Cell) (a x h : ℕ) → 0 < a → a ≤ length cs → times a (chain cs h) ≡ 0 → length (chain cs h) < length cs → ends cs h ≡ true
+pub chain_before : (cs : List Cell) (a x h : ℕ) → 0 < a → a ≤ length cs → times a (chain cs h) ≡ 0 → length (chain cs h) < length cs → ends cs h ≡ true
     → Before cs a x h
-chain-before cs a x h pos within out room e =
+chain_before cs a x h pos within out room e =
     let c : Cell = record { literal = x; next = h } in
     let ds = with_cell cs a c in
     let here : cell_at ds a ≡ c = get_or-set_same cs (a - 1) c _ (omega arith) in

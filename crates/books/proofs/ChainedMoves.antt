@@ -3,7 +3,7 @@ use Rattle.std.proofs.Common.{◌≡◌, ℕ, ◌<◌, ◌≤◌, true, ◌≢�
 use Rattle.std.proofs.lemmas.List.{length-set, length-append, length-map, append_assoc, append-nil, nil_from_length}
 use Rattle.books.specs.declared.cells.Cell.{Cell}
 use Rattle.books.specs.Chained.{cell_at, with_cell, chain, ends, times, literals_in, Parted}
-use Rattle.books.proofs.ChainedLinks.{times_cons, times_here, times-append, chain-none, chain_next, Next, chain_besides, cell_other, chain-before}
+use Rattle.books.proofs.ChainedLinks.{times_cons, times_here, times-append, chain_none, chain_next, Next, chain_besides, cell_other, chain_before}
 
 -- the front cell of the chain from a goes before the chain from b, and holds x from then on
 pub record Moved (old cs ds : List Cell) (all : List ℕ) (a b x next : ℕ) : Type 0 where
@@ -24,7 +24,7 @@ move old cs all a b x once room ne p =
     let long = ap length n.is in
     let size = p.size in
     let k = chain_besides cs a c n.pos h (omega arith) n.rest in
-    let f = chain-before cs a x b n.pos n.within (omega arith) (omega arith) p.ends_b in
+    let f = chain_before cs a x b n.pos n.within (omega arith) (omega arith) p.ends_b in
     let shorter = ap length k.is in
     record {
       parted = record {
@@ -53,7 +53,7 @@ moved old cs ds all a b x next once room ne p e f = rw (e, f) (move old cs all a
 pub taken_none : (cs : List Cell) (lits left : List ℕ) (free : ℕ) → ends cs free ≡ true → left ≡ lits
     → Parted cs cs (chain cs free) free 0 × (left ++ literals_in cs 0 ≡ lits)
 taken_none cs lits left free e f =
-    let none = chain-none cs in (
+    let none = chain_none cs in (
       record {
         ends_a = e;
         ends_b = none.0;
@@ -72,7 +72,7 @@ free_next old cs fs lits left rest x a b enough p e f =
     chain_next cs a p.ends_a
     (λ z.
     let many = p.as_many in
-    let none = ap (λ h. length (chain cs h)) z ∙ ap length (chain-none cs).1 in
+    let none = ap (λ h. length (chain cs h)) z ∙ ap length (chain_none cs).1 in
     let long = ap length e in
     let last = ap length f in
     omega (arith, length-append left (literals_in cs b), length-append rest (x ∷ []), length-map (chain cs b) (λ i. (cell_at cs i).literal)))
@@ -87,8 +87,8 @@ pub taken_all : (cs : List Cell) (lits left : List ℕ) (b : ℕ) → length lef
 taken_all cs lits left b none e = ap (λ r. r ++ literals_in cs b) (sym (nil_from_length left none)) ∙ e
 
 -- a chain whose cells are given back: before its first cell
-pub given-none : (cs : List Cell) (a b : ℕ) → ends cs a ≡ true → ends cs b ≡ true → Parted cs cs (chain cs a ++ chain cs b) a b
-given-none cs a b e f = record {
+pub given_none : (cs : List Cell) (a b : ℕ) → ends cs a ≡ true → ends cs b ≡ true → Parted cs cs (chain cs a ++ chain cs b) a b
+given_none cs a b e f = record {
   ends_a = e;
   ends_b = f;
   shared = λ i. sym (times-append i (chain cs a) (chain cs b));

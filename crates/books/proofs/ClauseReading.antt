@@ -16,12 +16,12 @@ pub stands : (o : Option (List ℕ)) (n : ℕ) → ◌≡◌ {A = Result ℕ Ref
 stands None n e = let z : ◌≡◌ {A = ℕ} 0 1 = cc in absurd (omega arith)
 stands (Some c) n e = record { clause = c; is = refl; long = cc }
 
-pub length-read : (o : Option (List ℕ)) (c : List ℕ) (n : ℕ) → o ≡ Some c → ◌≡◌ {A = Result ℕ Refusal} (Ok n) (length_answer o) → n ≡ length c
-length-read o c n is e = let f : ◌≡◌ {A = Result ℕ Refusal} (Ok n) (Ok (length c)) = e ∙ ap length_answer is in cc
+pub length_read : (o : Option (List ℕ)) (c : List ℕ) (n : ℕ) → o ≡ Some c → ◌≡◌ {A = Result ℕ Refusal} (Ok n) (length_answer o) → n ≡ length c
+length_read o c n is e = let f : ◌≡◌ {A = Result ℕ Refusal} (Ok n) (Ok (length c)) = e ∙ ap length_answer is in cc
 
-pub none-stands : (o : Option (List ℕ)) (r : Refusal) → ◌≡◌ {A = Result ℕ Refusal} (Err r) (length_answer o) → (o ≡ None) × (r ≡ NoClause)
-none-stands None r e = (refl, (cc))
-none-stands (Some c) r e = let z : ◌≡◌ {A = ℕ} 0 1 = cc in absurd (omega arith)
+pub none_stands : (o : Option (List ℕ)) (r : Refusal) → ◌≡◌ {A = Result ℕ Refusal} (Err r) (length_answer o) → (o ≡ None) × (r ≡ NoClause)
+none_stands None r e = (refl, (cc))
+none_stands (Some c) r e = let z : ◌≡◌ {A = ℕ} 0 1 = cc in absurd (omega arith)
 
 -- a literal of the clause is asked for
 module _ (o : Option (List ℕ)) (c : List ℕ) (i : ℕ) (is : o ≡ Some c) (lt : i < length c) where

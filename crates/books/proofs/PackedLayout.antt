@@ -95,9 +95,9 @@ short_push [] c h le (suc i) = h i
 short_push (o ∷ os) c h le zero = h 0
 short_push (o ∷ os) c h le (suc i) = short_push os c (λ j. h (suc j)) le i
 
-pub short-set : (os : List (Option (List ℕ))) (k : ℕ) → Short os → Short (set os k None)
-short-set [] k h i = h i
-short-set (o ∷ os) zero h zero = omega arith
-short-set (o ∷ os) zero h (suc i) = h (suc i)
-short-set (o ∷ os) (suc k) h zero = h 0
-short-set (o ∷ os) (suc k) h (suc i) = short-set os k (λ j. h (suc j)) i
+pub short_set : (os : List (Option (List ℕ))) (k : ℕ) → Short os → Short (set os k None)
+short_set [] k h i = h i
+short_set (o ∷ os) zero h zero = omega arith
+short_set (o ∷ os) zero h (suc i) = h (suc i)
+short_set (o ∷ os) (suc k) h zero = h 0
+short_set (o ∷ os) (suc k) h (suc i) = short_set os k (λ j. h (suc j)) i

@@ -59,9 +59,9 @@ placed ls ss i s ((e, f), g) h =
 pub placed_within : {ls : List ℕ} {ss : List (Option Span)} {i : ℕ} {s : Span} → Placed ls ss i s → i < length ss
 placed_within p = omega (arith, length_spans 0 p.before, p.place, simp length-append at (ap length p.spans))
 
-pub placed-after : {ls : List ℕ} {ss : List (Option Span)} {i : ℕ} {s : Span} → Placed ls ss i s
+pub placed_after : {ls : List ℕ} {ss : List (Option Span)} {i : ℕ} {s : Span} → Placed ls ss i s
     → (j : ℕ) (r : Span) → i < j → get_or ss j None ≡ Some r → s.start + s.length ≤ r.start
-placed-after {i = i} {s = s} p j r lt e =
+placed_after {i = i} {s = s} p j r lt e =
     let n : length (spans_from 0 p.before ++ (Some s ∷ [])) ≡ i + 1 = rw (length_push, length_spans, p.place) in
     spans_start (s.start + s.length) p.after (j - (i + 1)) r
     (sym (get_or-append_right (spans_from 0 p.before ++ (Some s ∷ [])) _ (i + 1) j None n (omega arith))

@@ -8,7 +8,7 @@ use Rattle.clauses.specs.JoiningLaw.{ClashOn, Pivot, JoiningLaw}
 use Rattle.clauses.proofs.Flips.{signal-flip, flip-flip, literal_value-flip}
 use Rattle.clauses.proofs.Members.{holds_at, Witness, held_by}
 use Rattle.clauses.proofs.Rising.{one_of_signal}
-use Rattle.clauses.proofs.Merges.{left-stays, right_stays, Unopposed, unopposed, merge_rises}
+use Rattle.clauses.proofs.Merges.{left_stays, right_stays, Unopposed, unopposed, merge_rises}
 use Rattle.clauses.proofs.Clashes.{clash_real, clash_found, clashes_climb, lone}
 
 module _ (xs ys : List ℕ) (u : Rising xs) (w : Rising ys) where
@@ -44,7 +44,7 @@ module _ (xs ys : List ℕ) (u : Rising xs) (w : Rising ys) where
     dropped c (inr m) = (inr m.0, λ e. m.1 (subst (λ d. Member d xs) (sym (ap flip (right_pivot c m.0 e) ∙ flip-flip p.0.0)) p.0.2))
 
     stays : (c : ℕ) → Member c xs ⊎ Member c ys → signal c ≢ s → Member c (merged xs ys)
-    stays c (inl m) n = left-stays c xs ys m (λ k. n (p.1 (signal c) (c, refl, m, k)))
+    stays c (inl m) n = left_stays c xs ys m (λ k. n (p.1 (signal c) (c, refl, m, k)))
     stays c (inr m) n = right_stays c xs ys m (λ k. n (p.1 (signal c) (flip c, signal-flip c, k, subst (λ d. Member d ys) (sym (flip-flip c)) m)))
 
     -- of two true literals, one of each clause, one is not the pivot's

@@ -21,11 +21,11 @@ held_by v (x ∷ xs) t = go (literal_value v x) refl t (held_by v xs)
     go false e s later = let w = later s in (w.0, inr w.1, w.2)
 
 -- the test and what it tells
-pub member-stands : (c : ℕ) (xs : List ℕ) → T (member c xs) → Member c xs
-member-stands c [] t = t
-member-stands c (x ∷ xs) t = let ih : T (member c xs) → Member c xs = member-stands c xs in grind (arith, ih)
+pub member_stands : (c : ℕ) (xs : List ℕ) → T (member c xs) → Member c xs
+member_stands c [] t = t
+member_stands c (x ∷ xs) t = let ih : T (member c xs) → Member c xs = member_stands c xs in grind (arith, ih)
 
-pub stands-member : (c : ℕ) (xs : List ℕ) → Member c xs → T (member c xs)
-stands-member c [] m = m
-stands-member c (x ∷ xs) (inl e) = grind (arith, e)
-stands-member c (x ∷ xs) (inr m) = let ih : T (member c xs) = stands-member c xs m in grind arith
+pub stands_member : (c : ℕ) (xs : List ℕ) → Member c xs → T (member c xs)
+stands_member c [] m = m
+stands_member c (x ∷ xs) (inl e) = grind (arith, e)
+stands_member c (x ∷ xs) (inr m) = let ih : T (member c xs) = stands_member c xs m in grind arith

@@ -20,13 +20,13 @@ unfolding flip
 meets x y = grind arith
 
 -- a literal of one list stays if the other list does not have its flip
-pub left-stays : (c : ℕ) (xs ys : List ℕ) → Member c xs → (Member (flip c) ys → ⊥) → Member c (merged xs ys)
-left-stays c [] ys m n = absurd m
-left-stays c (x ∷ xs) [] m n = m
-left-stays c (x ∷ xs) (y ∷ ys) m n =
-    let both = left-stays c xs ys in
-    let left = left-stays c xs (y ∷ ys) in
-    let right = left-stays c (x ∷ xs) ys in
+pub left_stays : (c : ℕ) (xs ys : List ℕ) → Member c xs → (Member (flip c) ys → ⊥) → Member c (merged xs ys)
+left_stays c [] ys m n = absurd m
+left_stays c (x ∷ xs) [] m n = m
+left_stays c (x ∷ xs) (y ∷ ys) m n =
+    let both = left_stays c xs ys in
+    let left = left_stays c xs (y ∷ ys) in
+    let right = left_stays c (x ∷ xs) ys in
     let f = meets x y in
     grind (arith, both, left, right)
 

@@ -25,11 +25,11 @@ clashed Clash x y = signal x ∷ []
 clashed LeftFirst x y = []
 clashed RightFirst x y = []
 
-pub clashes-step : Stepwise clashes clashed
-clashes-step = stepwise clashes clashed (λ x xs y ys. grind arith)
+pub clashes_step : Stepwise clashes clashed
+clashes_step = stepwise clashes clashed (λ x xs y ys. grind arith)
 
-pub merged-step : Stepwise merged (λ m x y. listed (kept m x y))
-merged-step = stepwise merged (λ m x y. listed (kept m x y)) (λ x xs y ys. grind arith)
+pub merged_step : Stepwise merged (λ m x y. listed (kept m x y))
+merged_step = stepwise merged (λ m x y. listed (kept m x y)) (λ x xs y ys. grind arith)
 
 -- one list is at its end
 pub clashes_end : (xs ys : List ℕ) → (xs ≡ []) ⊎ (ys ≡ []) → clashes xs ys ≡ []
@@ -43,6 +43,6 @@ merged_end (x ∷ xs) [] h = sym (append-nil (x ∷ xs))
 merged_end (x ∷ xs) (y ∷ ys) h = grind arith
 
 -- what is answered once no clash is left
-pub only-listed : (o : Option ℕ) → ok_or o NoClash ≡ only (listed o ++ [])
-only-listed (Some s) = refl
-only-listed None = refl
+pub only_listed : (o : Option ℕ) → ok_or o NoClash ≡ only (listed o ++ [])
+only_listed (Some s) = refl
+only_listed None = refl

@@ -12,11 +12,11 @@ use Rattle.model.specs.Plans.{Plan, complete, begun}
 use Rattle.formulas.specs.Reading.{read, then_root, fresh, formula_answer, formula_done, formula_plan}
 
 -- which plans have neither gates nor a root
-pub complete-not-fresh : (p : Plan) → complete p ≡ true → fresh p ≡ false
-complete-not-fresh p h = rw h refl
+pub complete_not_fresh : (p : Plan) → complete p ≡ true → fresh p ≡ false
+complete_not_fresh p h = rw h refl
 
-pub gates-not-fresh : (p : Plan) → (length p.gates ≡ 0 → ⊥) → fresh p ≡ false
-gates-not-fresh p some = elim (cases_Bool (complete p)) [ inl t ↦ rw t refl | inr t ↦ rw (t, ne_eqb _ 0 some) refl ]
+pub gates_not_fresh : (p : Plan) → (length p.gates ≡ 0 → ⊥) → fresh p ≡ false
+gates_not_fresh p some = elim (cases_Bool (complete p)) [ inl t ↦ rw t refl | inr t ↦ rw (t, ne_eqb _ 0 some) refl ]
 
 pub is_fresh : (p : Plan) → complete p ≡ false → length p.gates ≡ 0 → fresh p ≡ true
 is_fresh p h z = rw (h, eq-eqb _ 0 z) refl
@@ -30,8 +30,8 @@ begun_parts n [] (Some r) h z = absurd (false≢true (sym h))
 begun_parts n (g ∷ gs) r h z = absurd (omega arith)
 
 -- a plan with neither gates nor a root is one as begun
-pub fresh-begun : (p : Plan) → complete p ≡ false → length p.gates ≡ 0 → p ≡ begun p.switches
-fresh-begun p h z = begun_parts p.switches p.gates p.root h z
+pub fresh_begun : (p : Plan) → complete p ≡ false → length p.gates ≡ 0 → p ≡ begun p.switches
+fresh_begun p h z = begun_parts p.switches p.gates p.root h z
 
 -- the refusals in their order
 module _ (K : Kind) (p : Plan) (text : List ℕ) where

@@ -15,16 +15,16 @@ use Rattle.formulas.proofs.ReadingSteps.{added}
 abbrev pub grown : Plan → Formula → Plan
 grown p f = record { switches = p.switches; gates = (gates_of p.switches f p.gates).1; root = p.root }
 
-pub gates-length : (n : ℕ) (f : Formula) (gates : List Node) → length (gates_of n f gates).1 ≡ length gates + gate_count f
-gates-length n (Switch s) gates = omega arith
-gates-length n (Not f) gates = length_push (gates_of n f gates).1 _ ∙ omega (arith, gates-length n f gates)
-gates-length n (Join s f g) gates = length_push (gates_of n g (gates_of n f gates).1).1 _ ∙ omega (arith, gates-length n f gates, gates-length n g (gates_of n f gates).1)
+pub gates_length : (n : ℕ) (f : Formula) (gates : List Node) → length (gates_of n f gates).1 ≡ length gates + gate_count f
+gates_length n (Switch s) gates = omega arith
+gates_length n (Not f) gates = length_push (gates_of n f gates).1 _ ∙ omega (arith, gates_length n f gates)
+gates_length n (Join s f g) gates = length_push (gates_of n g (gates_of n f gates).1).1 _ ∙ omega (arith, gates_length n f gates, gates_length n g (gates_of n f gates).1)
 
 -- a formula's signal is one of the signals then
-pub own-signal : (n : ℕ) (f : Formula) (gates : List Node) → Over n f → (1 ≤ (gates_of n f gates).0) × ((gates_of n f gates).0 ≤ n + length (gates_of n f gates).1)
-own-signal n (Switch s) gates o = (o.0, omega arith)
-own-signal n (Not f) gates o = let more = length_push (gates_of n f gates).1 (node 16 ((gates_of n f gates).0 ∷ [])) in (omega arith, omega arith)
-own-signal n (Join s f g) gates o =
+pub own_signal : (n : ℕ) (f : Formula) (gates : List Node) → Over n f → (1 ≤ (gates_of n f gates).0) × ((gates_of n f gates).0 ≤ n + length (gates_of n f gates).1)
+own_signal n (Switch s) gates o = (o.0, omega arith)
+own_signal n (Not f) gates o = let more = length_push (gates_of n f gates).1 (node 16 ((gates_of n f gates).0 ∷ [])) in (omega arith, omega arith)
+own_signal n (Join s f g) gates o =
     let more = length_push (gates_of n g (gates_of n f gates).1).1 (node (operator_code s) ((gates_of n f gates).0 ∷ (gates_of n g (gates_of n f gates).1).0 ∷ [])) in
     (omega arith, omega arith)
 
@@ -46,10 +46,10 @@ code_low If = omega arith
 code_low Same = omega arith
 code_low Differ = omega arith
 
-pub code-arity : (s : Sign) → 2 ≡ two_arity (operator_code s)
-code-arity And = refl
-code-arity Or = refl
-code-arity Then = refl
-code-arity If = refl
-code-arity Same = refl
-code-arity Differ = refl
+pub code_arity : (s : Sign) → 2 ≡ two_arity (operator_code s)
+code_arity And = refl
+code_arity Or = refl
+code_arity Then = refl
+code_arity If = refl
+code_arity Same = refl
+code_arity Differ = refl

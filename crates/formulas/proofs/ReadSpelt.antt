@@ -10,11 +10,11 @@ use Rattle.gates.specs.TwoInput.{two_input}
 use Rattle.model.specs.Plans.{Plan, node, signals, is_signal, gate_reasons, gate_answer, with_gate}
 use Rattle.model.proofs.Reasons.{none_hold}
 use Rattle.texts.specs.Numbers.{number_answer}
-use Rattle.texts.proofs.Decimals.{number-spelt}
+use Rattle.texts.proofs.Decimals.{number_spelt}
 use Rattle.formulas.specs.Reading.{Outcome, Fault, Read, add_gate, digit_count, sign_code, as_switch, read_switch, then_not, then_close, then_right, then_sign, read}
 use Rattle.formulas.specs.Trees.{Sign, And, Or, Then, If, Same, Differ, sign_byte, operator_code, Formula, Switch, Not, Join, spell, nesting, gate_count, Over, gates_of}
 use Rattle.formulas.proofs.ReadingSteps.{added}
-use Rattle.formulas.proofs.FormulaGates.{grown, gates-length}
+use Rattle.formulas.proofs.FormulaGates.{grown, gates_length}
 
 -- a text begins with a formula that nests at most d deep, and these are its signal and the plan with its gates
 pub record BeginsWith (d : ℕ) (text rest : List ℕ) (p : Plan) (signal : ℕ) (after : Plan) : Type 0 where
@@ -151,7 +151,7 @@ module _ (d : ℕ) (p : Plan) (s : ℕ) (rest : List ℕ) (after : Plan) where
   switch_begins : (text : List ℕ) → length p.gates ≤ max_gates → read_switch text p ≡ Read s rest after → BeginsWith d text rest p s after
   switch_begins text room h =
       let n = from_number (number_answer (take (digit_count text) text)) (drop (digit_count text) text) p s rest after h in
-      let q = number-spelt (take (digit_count text) text) s n.spelt in
+      let q = number_spelt (take (digit_count text) text) s n.spelt in
       record {
         formula = Switch s;
         spelt = sym (take-append-drop (digit_count text) text) ∙ rw (q.0, n.rest_is) refl;
@@ -164,13 +164,13 @@ module _ (d : ℕ) (p : Plan) (s : ℕ) (rest : List ℕ) (after : Plan) where
 
 -- how many gates there are then
 count_then : {d s : ℕ} {text rest : List ℕ} {p after : Plan} (i : BeginsWith d text rest p s after) → length after.gates ≡ length p.gates + gate_count i.formula
-count_then {d} {s} {text} {rest} {p} {after} i = ap (λ (q : Plan). length q.gates) i.after_is ∙ gates-length p.switches i.formula p.gates
+count_then {d} {s} {text} {rest} {p} {after} i = ap (λ (q : Plan). length q.gates) i.after_is ∙ gates_length p.switches i.formula p.gates
 
 still_few : {d s : ℕ} {text rest : List ℕ} {p after : Plan} → BeginsWith d text rest p s after → length after.gates ≤ max_gates
 still_few i = omega (arith, count_then i, i.few)
 
-not-begins : (d b : ℕ) (bs rest : List ℕ) (p p₁ : Plan) (s₁ s : ℕ) (after : Plan) → b ≡ 45 → BeginsWith d bs rest p s₁ p₁ → Added 16 (s₁ ∷ []) p₁ s after → BeginsWith (suc d) (b ∷ bs) rest p s after
-not-begins d b bs rest p p₁ s₁ s after e i a =
+not_begins : (d b : ℕ) (bs rest : List ℕ) (p p₁ : Plan) (s₁ s : ℕ) (after : Plan) → b ≡ 45 → BeginsWith d bs rest p s₁ p₁ → Added 16 (s₁ ∷ []) p₁ s after → BeginsWith (suc d) (b ∷ bs) rest p s after
+not_begins d b bs rest p p₁ s₁ s after e i a =
     record {
       formula = Not i.formula;
       spelt = rw (e, i.spelt) refl;
@@ -196,7 +196,7 @@ join_begins d b bs rest p s after e K again o w i j = joined w.b w.code w.l w.r 
     joined q code l r rest₃ p₂ p₄ sign a i j₂ =
         let c = from_code q code sign in
         let j : BeginsWith d rest₃ (41 ∷ rest) (grown p i.formula) r p₄ = rw i.after_is at j₂ in
-        let many = gates-length p.switches i.formula p.gates in
+        let many = gates_length p.switches i.formula p.gates in
         record {
           formula = Join c.0 i.formula j.formula;
           spelt = join_text b q bs rest₃ rest i.formula j.formula c.0 e i.spelt c.1 j.spelt;
@@ -207,27 +207,27 @@ join_begins d b bs rest p s after e K again o w i j = joined w.b w.code w.l w.r 
           after_is = a.after_is ∙ join_plan _ _ _ _ _ _ _ _ j.after_is c.2 i.signal_is j.signal_is;
         }
 
-pub read-spelt : (d : ℕ) (text : List ℕ) (p : Plan) (s : ℕ) (rest : List ℕ) (after : Plan) → length p.gates ≤ max_gates → read two_input d text p ≡ Read s rest after → BeginsWith d text rest p s after
+pub read_spelt : (d : ℕ) (text : List ℕ) (p : Plan) (s : ℕ) (rest : List ℕ) (after : Plan) → length p.gates ≤ max_gates → read two_input d text p ≡ Read s rest after → BeginsWith d text rest p s after
 unfolding read
-read-spelt zero [] p s rest after room h = absurd (fault_read h)
-read-spelt zero (b ∷ bs) p s rest after room h =
+read_spelt zero [] p s rest after room h = absurd (fault_read h)
+read_spelt zero (b ∷ bs) p s rest after room h =
     elim (cases_Bool (eqb b 45 || eqb b 40)) [
       | inl t ↦ absurd (fault_read (rw t at h))
       | inr t ↦ switch_begins zero p s rest after (b ∷ bs) room (rw t at h)
     ]
-read-spelt (suc d) [] p s rest after room h = absurd (fault_read h)
-read-spelt (suc d) (b ∷ bs) p s rest after room h =
+read_spelt (suc d) [] p s rest after room h = absurd (fault_read h)
+read_spelt (suc d) (b ∷ bs) p s rest after room h =
     elim (cases_eq b 45) [
       | inl e ↦
           let w = from_not two_input (read two_input d bs p) s rest after (rw (eq-eqb b 45 e) at h) in
-          let i = read-spelt d bs p w.0 rest w.1 room w.2 in
-          not-begins d b bs rest p w.1 w.0 s after e i w.3
+          let i = read_spelt d bs p w.0 rest w.1 room w.2 in
+          not_begins d b bs rest p w.1 w.0 s after e i w.3
       | inr e ↦
           elim (cases_eq b 40) [
             | inl o ↦
                 let w = from_sign two_input (read two_input d) s rest after (read two_input d bs p) (rw (ne_eqb b 45 e, eq-eqb b 40 o) at h) in
-                let i = read-spelt d bs p w.l (w.b ∷ w.rest₃) w.p₂ room w.left in
-                let j = read-spelt d w.rest₃ w.p₂ w.r (41 ∷ rest) w.p₄ (still_few i) w.right in
+                let i = read_spelt d bs p w.l (w.b ∷ w.rest₃) w.p₂ room w.left in
+                let j = read_spelt d w.rest₃ w.p₂ w.r (41 ∷ rest) w.p₄ (still_few i) w.right in
                 join_begins d b bs rest p s after o two_input (read two_input d) (read two_input d bs p) w i j
             | inr o ↦ switch_begins (suc d) p s rest after (b ∷ bs) room (rw (ne_eqb b 45 e, ne_eqb b 40 o) at h)
           ]

@@ -38,11 +38,11 @@ module _ (K : Kind) where
   deep_open (suc d) (b ∷ bs) p z f = absurd (omega arith)
 
   -- by the first character
-  read-not : (d : ℕ) (rest : List ℕ) (p : Plan) → (d ≡ 0 → ⊥) → Some 45 ≡ first rest → read K d rest p ≡ then_not K (read K (d - 1) (behind rest) p)
+  read_not : (d : ℕ) (rest : List ℕ) (p : Plan) → (d ≡ 0 → ⊥) → Some 45 ≡ first rest → read K d rest p ≡ then_not K (read K (d - 1) (behind rest) p)
   unfolding read
-  read-not d [] p nz f = absurd (grind arith)
-  read-not zero (b ∷ bs) p nz f = absurd (nz refl)
-  read-not (suc d) (b ∷ bs) p nz f = let e : b ≡ 45 = grind arith in rw (e, sub-one) refl
+  read_not d [] p nz f = absurd (grind arith)
+  read_not zero (b ∷ bs) p nz f = absurd (nz refl)
+  read_not (suc d) (b ∷ bs) p nz f = let e : b ≡ 45 = grind arith in rw (e, sub-one) refl
 
   read_open : (d : ℕ) (rest : List ℕ) (p : Plan) → (d ≡ 0 → ⊥) → Some 40 ≡ first rest → read K d rest p ≡ then_sign K (read K (d - 1)) (read K (d - 1) (behind rest) p)
   unfolding read
@@ -65,11 +65,11 @@ module _ (K : Kind) where
   -- rest₁ stands behind the first character of rest
   module _ (d : ℕ) (rest rest₁ : List ℕ) (p : Plan) (nz : d ≡ 0 → ⊥) (past : rest₁ ≡ behind rest) where
     pub not_fault : Some 45 ≡ first rest → (e : Refusal) → Fault e ≡ read K (d - 1) rest₁ p → Fault e ≡ read K d rest p
-    not_fault f e g = sym (read-not d rest p nz f ∙ rw (← past, ← g) refl)
+    not_fault f e g = sym (read_not d rest p nz f ∙ rw (← past, ← g) refl)
 
-    pub not-read : Some 45 ≡ first rest → (s : ℕ) (rest₂ : List ℕ) (p₂ : Plan) (out : Outcome) → Read s rest₂ p₂ ≡ read K (d - 1) rest₁ p
+    pub not_read : Some 45 ≡ first rest → (s : ℕ) (rest₂ : List ℕ) (p₂ : Plan) (out : Outcome) → Read s rest₂ p₂ ≡ read K (d - 1) rest₁ p
         → out ≡ add_gate K 16 (s ∷ []) rest₂ p₂ → out ≡ read K d rest p
-    not-read f s rest₂ p₂ out g o = o ∙ sym (read-not d rest p nz f ∙ rw (← past, ← g) refl)
+    not_read f s rest₂ p₂ out g o = o ∙ sym (read_not d rest p nz f ∙ rw (← past, ← g) refl)
 
     module _ (f : Some 40 ≡ first rest) where
       pub left_fault : (e : Refusal) → Fault e ≡ read K (d - 1) rest₁ p → Fault e ≡ read K d rest p

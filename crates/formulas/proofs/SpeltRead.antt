@@ -12,8 +12,8 @@ use Rattle.texts.specs.Numbers.{max_number, number_answer}
 use Rattle.texts.proofs.Decimals.{spelling, number_of, tested}
 use Rattle.formulas.specs.Reading.{Read, digit_count, sign_code, read_switch, read}
 use Rattle.formulas.specs.Trees.{Sign, And, Or, Then, If, Same, Differ, sign_byte, operator_code, Formula, Switch, Not, Join, spell, nesting, gate_count, Over, gates_of}
-use Rattle.formulas.proofs.ReadingSteps.{read_else, not-read, join_read}
-use Rattle.formulas.proofs.FormulaGates.{grown, gates-length, own-signal, signal_test, gate_taken, code_low, code-arity}
+use Rattle.formulas.proofs.ReadingSteps.{read_else, not_read, join_read}
+use Rattle.formulas.proofs.FormulaGates.{grown, gates_length, own_signal, signal_test, gate_taken, code_low, code_arity}
 
 sign_known : (s : Sign) → sign_code (sign_byte s) ≡ Some (operator_code s)
 sign_known And = refl
@@ -49,24 +49,24 @@ switch_read : (text ds rest : List ℕ) (v : ℕ) (p : Plan) → take (digit_cou
     → Read v rest p ≡ read_switch text p
 switch_read text ds rest v p front back number low high = rw (front, back, number, le-leb 1 v low, le-leb v p.switches high) refl
 
-pub spelt-read : (f : Formula) (d : ℕ) (rest : List ℕ) (p : Plan) → p.switches ≤ max_number → complete p ≡ false → digit_count rest ≡ 0 → nesting f ≤ d → Over p.switches f → length p.gates + gate_count f ≤ max_gates
+pub spelt_read : (f : Formula) (d : ℕ) (rest : List ℕ) (p : Plan) → p.switches ≤ max_number → complete p ≡ false → digit_count rest ≡ 0 → nesting f ≤ d → Over p.switches f → length p.gates + gate_count f ≤ max_gates
     → Read (gates_of p.switches f p.gates).0 rest (grown p f) ≡ read two_input d (spell f ++ rest) p
-spelt-read (Switch v) d rest p wide growing stops shallow over few =
+spelt_read (Switch v) d rest p wide growing stops shallow over few =
     let s = spelling (decimal v) v (omega arith) refl in
     let a : all_ascii_digits (decimal v) ≡ true = tested.from (decimal v) s.digits in
     let k = sym (count_digits (decimal v) rest a stops) in
     switch_read (decimal v ++ rest) (decimal v) rest v p (take_at (decimal v) rest _ k) (drop_at (decimal v) rest _ k) (number_of v (omega arith)) over.0 over.1
     ∙ read_else two_input d (decimal v ++ rest) p (first_is_digit (decimal v) rest a s.some 45 refl) (first_is_digit (decimal v) rest a s.some 40 refl)
-spelt-read (Not f) d rest p wide growing stops shallow over few =
+spelt_read (Not f) d rest p wide growing stops shallow over few =
     let nz : d ≡ 0 → ⊥ = λ e. omega arith in
     let n = p.switches in
-    let s = own-signal n f p.gates over in
+    let s = own_signal n f p.gates over in
     let test = signal_test (signals (grown p f)) _ s.0 s.1 in
     let there : are_signals (signals (grown p f)) ((gates_of n f p.gates).0 ∷ []) ≡ true = rw test refl in
-    not-read two_input d (45 ∷ (spell f ++ rest)) (spell f ++ rest) p nz refl refl (gates_of n f p.gates).0 rest (grown p f) _
-    (spelt-read f (d - 1) rest p wide growing stops (omega arith) over (omega arith))
-    (gate_taken 16 ((gates_of n f p.gates).0 ∷ []) rest (grown p f) growing (omega (arith, gates-length n f p.gates)) (omega arith) refl there)
-spelt-read (Join s f g) d rest p wide growing stops shallow over few =
+    not_read two_input d (45 ∷ (spell f ++ rest)) (spell f ++ rest) p nz refl refl (gates_of n f p.gates).0 rest (grown p f) _
+    (spelt_read f (d - 1) rest p wide growing stops (omega arith) over (omega arith))
+    (gate_taken 16 ((gates_of n f p.gates).0 ∷ []) rest (grown p f) growing (omega (arith, gates_length n f p.gates)) (omega arith) refl there)
+spelt_read (Join s f g) d rest p wide growing stops shallow over few =
     let nz : d ≡ 0 → ⊥ = λ e. omega arith in
     let n = p.switches in
     let p₂ = grown p f in
@@ -76,17 +76,17 @@ spelt-read (Join s f g) d rest p wide growing stops shallow over few =
     let right : List ℕ = spell g ++ (41 ∷ rest) in
     let left : List ℕ = spell f ++ (sign_byte s ∷ right) in
     let shape : spell (Join s f g) ++ rest ≡ 40 ∷ left = simp append_assoc in
-    let many₂ : length p₂.gates ≡ length p.gates + gate_count f = gates-length n f p.gates in
-    let many₄ : length p₄.gates ≡ length p₂.gates + gate_count g = gates-length n g p₂.gates in
-    let own-l = own-signal n f p.gates over.0 in
-    let own-r = own-signal n g p₂.gates over.1 in
-    let there-l = signal_test (signals p₄) l own-l.0 (omega arith) in
-    let there-r = signal_test (signals p₄) r own-r.0 own-r.1 in
-    let there : are_signals (signals p₄) (l ∷ r ∷ []) ≡ true = rw (there-l, there-r) refl in
+    let many₂ : length p₂.gates ≡ length p.gates + gate_count f = gates_length n f p.gates in
+    let many₄ : length p₄.gates ≡ length p₂.gates + gate_count g = gates_length n g p₂.gates in
+    let own_l = own_signal n f p.gates over.0 in
+    let own_r = own_signal n g p₂.gates over.1 in
+    let there_l = signal_test (signals p₄) l own_l.0 (omega arith) in
+    let there_r = signal_test (signals p₄) r own_r.0 own_r.1 in
+    let there : are_signals (signals p₄) (l ∷ r ∷ []) ≡ true = rw (there_l, there_r) refl in
     rw shape
     (join_read two_input d (40 ∷ left) left p nz refl refl l (sign_byte s ∷ right) p₂
-    (spelt-read f (d - 1) (sign_byte s ∷ right) p wide growing (sign_no_digit s right) (omega arith) over.0 (omega arith))
+    (spelt_read f (d - 1) (sign_byte s ∷ right) p wide growing (sign_no_digit s right) (omega arith) over.0 (omega arith))
     (operator_code s) right (sign_byte s, refl, sign_known s) r (41 ∷ rest) p₄
-    (spelt-read g (d - 1) (41 ∷ rest) p₂ wide growing refl (omega arith) over.1 (omega arith))
+    (spelt_read g (d - 1) (41 ∷ rest) p₂ wide growing refl (omega arith) over.1 (omega arith))
     rest _ refl
-    (gate_taken (operator_code s) (l ∷ r ∷ []) rest p₄ growing (omega arith) (code_low s) (code-arity s) there))
+    (gate_taken (operator_code s) (l ∷ r ∷ []) rest p₄ growing (omega arith) (code_low s) (code_arity s) there))

@@ -4,7 +4,7 @@ ghost use Rattle.clauses.specs.Limits.{max_nesting};
 ghost use Rattle.gates.specs.TwoInput.{two_input};
 ghost use Rattle.plans.specs.PlanStates.{plan_of};
 ghost use Rattle.texts.specs.Readers.{rest_of};
-ghost use Rattle.formulas.specs.Reading.{read as read-formula, outcome, then_root, formula_answer, formula_done, formula_plan};
+ghost use Rattle.formulas.specs.Reading.{read as read_formula, outcome, then_root, formula_answer, formula_done, formula_plan};
 ghost use Rattle.formulas.specs.Trees.{ReadsExactly};
 
 use crate::parts::{read_close, read_sign, read_switch};
@@ -17,7 +17,7 @@ use texts::Reader;
 // Reads a formula that nests at most `depth` deep into gates of the plan; answers its signal.
 fn read<G: GateKind>(reader: &mut Reader, depth: u8, plan: &mut Plan<G>) -> Result<u32, Refusal>
     ensures switches { (plan_of plan.new).switches ≡ (plan_of plan.old).switches }
-    ensures reads { outcome result (rest_of reader.new) (plan_of plan.new) ≡ read-formula G.GateKind.kind depth (rest_of reader.old) (plan_of plan.old) }
+    ensures reads { outcome result (rest_of reader.new) (plan_of plan.new) ≡ read_formula G.GateKind.kind depth (rest_of reader.old) (plan_of plan.old) }
 {
     match reader.peek() {
         Some('-') => {
@@ -46,8 +46,8 @@ fn read<G: GateKind>(reader: &mut Reader, depth: u8, plan: &mut Plan<G>) -> Resu
 // Reads a whole text as one formula, whose signal becomes the root.
 fn read_whole<G: GateKind>(text: &[u8], plan: &mut Plan<G>) -> Result<(), Refusal>
     ensures switches { (plan_of plan.new).switches ≡ (plan_of plan.old).switches }
-    ensures answer { result ≡ formula_done (then_root (read-formula G.GateKind.kind max_nesting text.now (plan_of plan.old))) }
-    ensures granted { plan_of plan.new ≡ formula_plan (then_root (read-formula G.GateKind.kind max_nesting text.now (plan_of plan.old))) (plan_of plan.new) }
+    ensures answer { result ≡ formula_done (then_root (read_formula G.GateKind.kind max_nesting text.now (plan_of plan.old))) }
+    ensures granted { plan_of plan.new ≡ formula_plan (then_root (read_formula G.GateKind.kind max_nesting text.now (plan_of plan.old))) (plan_of plan.new) }
 {
     let mut reader = Reader::new(text);
     let signal = read::<G>(&mut reader, MAX_NESTING as u8, plan)?;

@@ -10,15 +10,15 @@ abbrev without : ℕ → List ℕ → List ℕ
 without m [] = []
 without m (x ∷ xs) = cond (eqb x m) (without m xs) (x ∷ without m xs)
 
-member-without : (x m : ℕ) (xs : List ℕ) → Member x (without m xs) → Member x xs × (x ≡ m → ⊥)
-member-without x m [] h = absurd h
-member-without x m (y ∷ ys) h = let ih : Member x (without m ys) → Member x ys × (x ≡ m → ⊥) = member-without x m ys in grind (arith, ih)
+member_without : (x m : ℕ) (xs : List ℕ) → Member x (without m xs) → Member x xs × (x ≡ m → ⊥)
+member_without x m [] h = absurd h
+member_without x m (y ∷ ys) h = let ih : Member x (without m ys) → Member x ys × (x ≡ m → ⊥) = member_without x m ys in grind (arith, ih)
 
 distinct_without : (m : ℕ) (xs : List ℕ) → Distinct xs → Distinct (without m xs)
 distinct_without m [] d = tt
 distinct_without m (x ∷ xs) d =
     let ih : Distinct (without m xs) = distinct_without m xs d.1 in
-    let fresh : Member x (without m xs) → ⊥ = λ h. d.0 (member-without x m xs h).0 in
+    let fresh : Member x (without m xs) → ⊥ = λ h. d.0 (member_without x m xs h).0 in
     grind (arith, ih, fresh)
 
 length_absent : (m : ℕ) (xs : List ℕ) → (Member m xs → ⊥) → length xs ≤ length (without m xs)
@@ -39,7 +39,7 @@ pub few_distinct : (n : ℕ) (xs : List ℕ) → Distinct xs → ((x : ℕ) → 
 few_distinct zero [] d b = omega arith
 few_distinct zero (x ∷ xs) d b = absurd (not-suc-le-zero (b x (inl refl)))
 few_distinct (suc n) xs d b =
-    let ih : length (without n xs) ≤ n = few_distinct n (without n xs) (distinct_without n xs d) (λ x h. below x (member-without x n xs h)) in
+    let ih : length (without n xs) ≤ n = few_distinct n (without n xs) (distinct_without n xs d) (λ x h. below x (member_without x n xs h)) in
     omega (arith, length_without n xs d)
   where
     below : (x : ℕ) → Member x xs × (x ≡ n → ⊥) → x < n

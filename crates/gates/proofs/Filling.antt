@@ -12,8 +12,8 @@ length-insert_all [] cs = omega arith
 length-insert_all (l ∷ ls) cs = omega (arith, length-insert_all ls (insert l cs), length-insert l cs)
 
 -- a list written over a buffer over whose front a shorter one was written
-over-over : (xs ys out : List ℕ) → length xs ≤ length ys → written_over ys (written_over xs out) ≡ written_over ys out
-over-over xs ys out l =
+over_over : (xs ys out : List ℕ) → length xs ≤ length ys → written_over ys (written_over xs out) ≡ written_over ys out
+over_over xs ys out l =
     let k = length ys - length xs in
     let n : length ys ≡ length xs + k = omega arith in
     ap (λ zs. ys ++ zs)
@@ -39,9 +39,9 @@ module _ (f : SlotLiteral → ℕ) (p : List SlotLiteral) where
   filled_all : (i : ℕ) → length p ≤ i → filled i ≡ insert_all (map f p) []
   filled_all i h = ap (λ q. insert_all (map f q) []) (take_all i p h)
 
-  module _ (out₀ out : List ℕ) (i n c : ℕ) (h : i < length p) (n-is : n ≡ length (filled i)) (out-is : out ≡ written_over (filled i) out₀) (c-is : c ≡ f (get_or p i past_end)) where
+  module _ (out₀ out : List ℕ) (i n c : ℕ) (h : i < length p) (n_is : n ≡ length (filled i)) (out_is : out ≡ written_over (filled i) out₀) (c_is : c ≡ f (get_or p i past_end)) where
     step_is : insert c (take n out) ≡ filled (i + 1)
-    step_is = ap₂ insert c-is (ap (take n) out-is ∙ take_at (filled i) _ n (sym n-is)) ∙ filled_more i h
+    step_is = ap₂ insert c_is (ap (take n) out_is ∙ take_at (filled i) _ n (sym n_is)) ∙ filled_more i h
 
     pub step_count : (m : ℕ) → m ≡ length (insert c (take n out)) → m ≡ length (filled (i + 1))
     step_count m e = e ∙ ap length step_is
@@ -49,16 +49,16 @@ module _ (f : SlotLiteral → ℕ) (p : List SlotLiteral) where
     pub step_buffer : (new : List ℕ) → new ≡ written_over (insert c (take n out)) out → new ≡ written_over (filled (i + 1)) out₀
     step_buffer new e =
         e
-        ∙ ap₂ written_over step_is out-is
-        ∙ over-over (filled i) (filled (i + 1)) out₀ (omega (arith, ap length (filled_more i h), length-insert (f (get_or p i past_end)) (filled i)))
+        ∙ ap₂ written_over step_is out_is
+        ∙ over_over (filled i) (filled (i + 1)) out₀ (omega (arith, ap length (filled_more i h), length-insert (f (get_or p i past_end)) (filled i)))
 
   -- the whole pattern is put in
-  module _ (out₀ out : List ℕ) (i n : ℕ) (h : length p ≤ i) (n-is : n ≡ length (filled i)) (out-is : out ≡ written_over (filled i) out₀) where
+  module _ (out₀ out : List ℕ) (i n : ℕ) (h : length p ≤ i) (n_is : n ≡ length (filled i)) (out_is : out ≡ written_over (filled i) out₀) where
     abbrev whole : List ℕ
     whole = insert_all (map f p) []
 
     pub end_front : take (n - 0) out ≡ whole
-    end_front = ap (take (n - 0)) out-is ∙ take_at (filled i) _ (n - 0) (omega arith) ∙ filled_all i h
+    end_front = ap (take (n - 0)) out_is ∙ take_at (filled i) _ (n - 0) (omega arith) ∙ filled_all i h
 
     pub end_buffer : out ≡ written_over whole out₀
-    end_buffer = out-is ∙ ap (λ xs. written_over xs out₀) (filled_all i h)
+    end_buffer = out_is ∙ ap (λ xs. written_over xs out₀) (filled_all i h)

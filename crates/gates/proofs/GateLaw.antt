@@ -8,9 +8,9 @@ use Rattle.gates.specs.declared.kinds.SlotLiteral.{SlotLiteral}
 use Rattle.gates.specs.Kinds.{Kind, Lawful, Sized, pattern_holds, patterns_hold, well_formed, all_well_formed}
 use Rattle.gates.specs.GateClauses.{instance, both_ways, node_patterns, clauses_of, GateLaw}
 use Rattle.gates.specs.Computed.{and_left, and_right}
-use Rattle.gates.proofs.InstanceLaw.{holds-instance, both_ways-holds}
-use Rattle.gates.proofs.InstanceShape.{instance-rising, instance-length, instance_within}
-use Rattle.gates.proofs.Known.{known-patterns, known-fits}
+use Rattle.gates.proofs.InstanceLaw.{holds_instance, both_ways_holds}
+use Rattle.gates.proofs.InstanceShape.{instance_rising, instance_length, instance_within}
+use Rattle.gates.proofs.Known.{known_patterns, known_fits}
 use Rattle.gates.proofs.PatternSizes.{short_pattern}
 
 -- the instances that are kept
@@ -21,7 +21,7 @@ module _ (v : ℕ → Bool) (z : ℕ) (operands : List ℕ) where
   kept_hold : (ps : List (List SlotLiteral)) → T (all_well_formed (length operands) ps) → all_hold v (kept z operands ps) ≡ patterns_hold (map v operands) (v z) ps
   kept_hold [] t = refl
   kept_hold (p ∷ ps) t =
-      go (both_ways c) (both_ways-holds v c) (kept_hold ps (and_right (well_formed (length operands) p) _ t)) (holds-instance v z operands p (and_left _ _ t))
+      go (both_ways c) (both_ways_holds v c) (kept_hold ps (and_right (well_formed (length operands) p) _ t)) (holds_instance v z operands p (and_left _ _ t))
     where
       c : List ℕ
       c = instance z operands p
@@ -47,13 +47,13 @@ gate_law K lawful sized n z node fits above = record {
       let e = ap (λ ps. all_hold v (kept z node.operands ps)) these ∙ kept_hold v z node.operands (K.patterns node.code) formed in
       let law = lawful node.code fits.in_codes (map v node.operands) (length-map node.operands v ∙ fits.full) (v z) in
       (λ t. law.0 (subst T e t), λ q. subst T (sym e) (law.1 q));
-  rising = every Rising (λ p t k. instance-rising n z node.operands fits.earlier (omega arith) p t k);
+  rising = every Rising (λ p t k. instance_rising n z node.operands fits.earlier (omega arith) p t k);
   own = every (λ c. (l : ℕ) → Member l c → signal l ≤ z) (λ p t _. instance_within n z node.operands fits.earlier above p t);
-  short = every (λ c. length c ≤ 18) (λ p t _. omega (arith, instance-length z node.operands p, short_pattern (length node.operands) p t, few));
+  short = every (λ c. length c ≤ 18) (λ p t _. omega (arith, instance_length z node.operands p, short_pattern (length node.operands) p t, few));
 }
   where
     these : node_patterns K node ≡ K.patterns node.code
-    these = known-patterns K node (known-fits K node n fits)
+    these = known_patterns K node (known_fits K node n fits)
 
     formed : T (all_well_formed (length node.operands) (K.patterns node.code))
     formed = subst (λ (k : ℕ). T (all_well_formed k (K.patterns node.code))) (sym fits.full) (sized.well_formed_patterns node.code fits.in_codes)

@@ -4,7 +4,7 @@ use Rattle.std.proofs.lemmas.List.{get_or-map}
 use Rattle.clauses.specs.Literals.{literal_of, flip, literal_value}
 use Rattle.clauses.specs.Clauses.{holds, Member, member}
 use Rattle.clauses.proofs.Flips.{literal_value-flip}
-use Rattle.clauses.proofs.Members.{holds_at, member-stands}
+use Rattle.clauses.proofs.Members.{holds_at, member_stands}
 use Rattle.gates.specs.declared.kinds.Slot.{Slot}
 use Rattle.gates.specs.declared.kinds.Slot.TheVariants.{Operand, Output}
 use Rattle.gates.specs.declared.kinds.SlotLiteral.{SlotLiteral}
@@ -44,18 +44,18 @@ module _ (v : ℕ → Bool) where
     holds-put_in (l ∷ p) t =
         ap₂ (λ a b. a || b) (value_put_in l (and_left _ _ t)) (holds-put_in p (and_right (not (stands_in l p)) _ (and_right (in_place (length operands) l.slot) _ t)))
 
-    pub holds-instance : (p : List SlotLiteral) → T (well_formed (length operands) p) → holds v (instance z operands p) ≡ pattern_holds (map v operands) (v z) p
-    holds-instance p t = holds-insert_all (map (put_in z operands) p) [] ∙ or_none (holds v (map (put_in z operands) p)) ∙ holds-put_in p t
+    pub holds_instance : (p : List SlotLiteral) → T (well_formed (length operands) p) → holds v (instance z operands p) ≡ pattern_holds (map v operands) (v z) p
+    holds_instance p t = holds-insert_all (map (put_in z operands) p) [] ∙ or_none (holds v (map (put_in z operands) p)) ∙ holds-put_in p t
 
   -- what stands both ways holds
-  opposed-holds : (ls cs : List ℕ) → ((c : ℕ) → Member c ls → Member c cs) → T (opposed ls cs) → T (holds v cs)
-  opposed-holds [] cs s t = absurd t
-  opposed-holds (l ∷ ls) cs s t =
-      let ih : T (opposed ls cs) → T (holds v cs) = opposed-holds ls cs (λ c m. s c (inr m)) in
+  opposed_holds : (ls cs : List ℕ) → ((c : ℕ) → Member c ls → Member c cs) → T (opposed ls cs) → T (holds v cs)
+  opposed_holds [] cs s t = absurd t
+  opposed_holds (l ∷ ls) cs s t =
+      let ih : T (opposed ls cs) → T (holds v cs) = opposed_holds ls cs (λ c m. s c (inr m)) in
       let here : T (literal_value v l) → T (holds v cs) = holds_at v l cs (s l (inl refl)) in
-      let there : T (member (flip l) cs) → T (literal_value v (flip l)) → T (holds v cs) = λ m. holds_at v (flip l) cs (member-stands (flip l) cs m) in
+      let there : T (member (flip l) cs) → T (literal_value v (flip l)) → T (holds v cs) = λ m. holds_at v (flip l) cs (member_stands (flip l) cs m) in
       let f = literal_value-flip v l in
       grind (arith, ih, here, there, f)
 
-  pub both_ways-holds : (cs : List ℕ) → T (both_ways cs) → T (holds v cs)
-  both_ways-holds cs t = opposed-holds cs cs (λ c m. m) t
+  pub both_ways_holds : (cs : List ℕ) → T (both_ways cs) → T (holds v cs)
+  both_ways_holds cs t = opposed_holds cs cs (λ c m. m) t

@@ -47,20 +47,20 @@ signal_rises : (x y : ℕ) (ys : List ℕ) → x < y → T (not (both_ways (x �
 unfolding flip
 signal_rises x y ys h t = grind arith
 
-rising-codes : (s c : ℕ) (xs : List ℕ) → CodesAbove c xs → T (not (both_ways xs)) → ((x : ℕ) (ys : List ℕ) → xs ≡ x ∷ ys → s < signal x) → RisingAbove s xs
-rising-codes s c [] u t f = tt
-rising-codes s c (x ∷ []) u t f = (f x [] refl, tt)
-rising-codes s c (x ∷ y ∷ ys) u t f =
-    (f x (y ∷ ys) refl, rising-codes (signal x) x (y ∷ ys) u.1 (opposed_rest x (y ∷ ys) t) (λ z zs e. next z zs e))
+rising_codes : (s c : ℕ) (xs : List ℕ) → CodesAbove c xs → T (not (both_ways xs)) → ((x : ℕ) (ys : List ℕ) → xs ≡ x ∷ ys → s < signal x) → RisingAbove s xs
+rising_codes s c [] u t f = tt
+rising_codes s c (x ∷ []) u t f = (f x [] refl, tt)
+rising_codes s c (x ∷ y ∷ ys) u t f =
+    (f x (y ∷ ys) refl, rising_codes (signal x) x (y ∷ ys) u.1 (opposed_rest x (y ∷ ys) t) (λ z zs e. next z zs e))
   where
     next : (z : ℕ) (zs : List ℕ) → y ∷ ys ≡ z ∷ zs → signal x < signal z
     next z zs e = let q : y ≡ z = cc in let r : signal x < signal y = signal_rises x y ys u.1.0 t in subst (λ w. signal x < signal w) q r
 
 -- signals from 1 have codes above 1
 module _ (n z : ℕ) (operands : List ℕ) (earlier : Earlier n operands) (own : 1 ≤ z) where
-  signal-given : (s : Slot) → T (in_place (length operands) s) → 1 ≤ slot_signal z operands s
-  signal-given (Operand i) t = (earlier i (ltb→lt i (length operands) t)).0
-  signal-given Output t = own
+  signal_given : (s : Slot) → T (in_place (length operands) s) → 1 ≤ slot_signal z operands s
+  signal_given (Operand i) t = (earlier i (ltb→lt i (length operands) t)).0
+  signal_given Output t = own
 
   code_above : (s : ℕ) (m : Bool) → 1 ≤ s → 1 < literal_of s m
   code_above s true h = omega arith
@@ -69,12 +69,12 @@ module _ (n z : ℕ) (operands : List ℕ) (earlier : Earlier n operands) (own :
   codes_above : (p : List SlotLiteral) → T (well_formed (length operands) p) → AllByRecursion (λ l. 1 < l) (map (put_in z operands) p)
   codes_above [] t = tt
   codes_above (l ∷ p) t = (
-    code_above (slot_signal z operands l.slot) l.negated (signal-given l.slot (and_left _ _ t)),
+    code_above (slot_signal z operands l.slot) l.negated (signal_given l.slot (and_left _ _ t)),
     codes_above p (and_right (not (stands_in l p)) _ (and_right (in_place (length operands) l.slot) _ t)),
   )
 
-  pub instance-rising : (p : List SlotLiteral) → T (well_formed (length operands) p) → T (not (both_ways (instance z operands p))) → Rising (instance z operands p)
-  instance-rising p t k = rising-codes 0 1 (instance z operands p) above k (λ x xs e. first x xs e)
+  pub instance_rising : (p : List SlotLiteral) → T (well_formed (length operands) p) → T (not (both_ways (instance z operands p))) → Rising (instance z operands p)
+  instance_rising p t k = rising_codes 0 1 (instance z operands p) above k (λ x xs e. first x xs e)
     where
       above : CodesAbove 1 (instance z operands p)
       above = insert_all_above 1 (map (put_in z operands) p) [] (codes_above p t) tt
@@ -82,17 +82,17 @@ module _ (n z : ℕ) (operands : List ℕ) (earlier : Earlier n operands) (own :
       first : (x : ℕ) (xs : List ℕ) → instance z operands p ≡ x ∷ xs → 0 < signal x
       first x xs e = let u : CodesAbove 1 (x ∷ xs) = subst (CodesAbove 1) e above in let h : 1 < x = u.0 in omega arith
 
-pub instance-length : (z : ℕ) (operands : List ℕ) (p : List SlotLiteral) → length (instance z operands p) ≤ length p
-instance-length z operands p = omega (arith, length-insert_all (map (put_in z operands) p) [], length-map p (put_in z operands))
+pub instance_length : (z : ℕ) (operands : List ℕ) (p : List SlotLiteral) → length (instance z operands p) ≤ length p
+instance_length z operands p = omega (arith, length-insert_all (map (put_in z operands) p) [], length-map p (put_in z operands))
 
 -- the literals of an instance are those put in
-insert-member : (l c : ℕ) (xs : List ℕ) → Member l (insert c xs) → (l ≡ c) ⊎ Member l xs
-insert-member l c [] m = m
-insert-member l c (x ∷ xs) m = let ih : Member l (insert c xs) → (l ≡ c) ⊎ Member l xs = insert-member l c xs in grind (arith, ih)
+insert_member : (l c : ℕ) (xs : List ℕ) → Member l (insert c xs) → (l ≡ c) ⊎ Member l xs
+insert_member l c [] m = m
+insert_member l c (x ∷ xs) m = let ih : Member l (insert c xs) → (l ≡ c) ⊎ Member l xs = insert_member l c xs in grind (arith, ih)
 
 insert_all_within : (z : ℕ) (ls cs : List ℕ) → AllByRecursion (λ l. signal l ≤ z) ls → ((l : ℕ) → Member l cs → signal l ≤ z) → (l : ℕ) → Member l (insert_all ls cs) → signal l ≤ z
 insert_all_within z [] cs a b l m = b l m
-insert_all_within z (c ∷ ls) cs a b l m = insert_all_within z ls (insert c cs) a.1 (λ k n. here k (insert-member k c cs n)) l m
+insert_all_within z (c ∷ ls) cs a b l m = insert_all_within z ls (insert c cs) a.1 (λ k n. here k (insert_member k c cs n)) l m
   where
     here : (k : ℕ) → (k ≡ c) ⊎ Member k cs → signal k ≤ z
     here k (inl e) = subst (λ (j : ℕ). signal j ≤ z) (sym e) a.0
@@ -103,14 +103,14 @@ module _ (n z : ℕ) (operands : List ℕ) (earlier : Earlier n operands) (own :
   signal_within (Operand i) t = let e : get_or operands i 0 ≤ n = (earlier i (ltb→lt i (length operands) t)).1 in omega arith
   signal_within Output t = omega arith
 
-  code-signal : (s : ℕ) (b : Bool) → s ≤ z → signal (literal_of s b) ≤ z
-  code-signal s true h = omega arith
-  code-signal s false h = omega arith
+  code_signal : (s : ℕ) (b : Bool) → s ≤ z → signal (literal_of s b) ≤ z
+  code_signal s true h = omega arith
+  code_signal s false h = omega arith
 
   codes_within : (p : List SlotLiteral) → T (well_formed (length operands) p) → AllByRecursion (λ l. signal l ≤ z) (map (put_in z operands) p)
   codes_within [] t = tt
   codes_within (l ∷ p) t = (
-    code-signal (slot_signal z operands l.slot) l.negated (signal_within l.slot (and_left _ _ t)),
+    code_signal (slot_signal z operands l.slot) l.negated (signal_within l.slot (and_left _ _ t)),
     codes_within p (and_right (not (stands_in l p)) _ (and_right (in_place (length operands) l.slot) _ t)),
   )
 

@@ -13,9 +13,9 @@ module _ (ps : List (List SlotLiteral)) where
     pattern_inverted : get_or (map (map inverted) ps) i [] ≡ map inverted (get_or ps i [])
     pattern_inverted = get_or-map (map inverted) ps i [] [] h
 
-    pub size-inverted : (b : Bool) → length (get_or (invert_if b ps) i []) ≡ length (get_or ps i [])
-    size-inverted true = ap length pattern_inverted ∙ length-map (get_or ps i []) inverted
-    size-inverted false = refl
+    pub size_inverted : (b : Bool) → length (get_or (invert_if b ps) i []) ≡ length (get_or ps i [])
+    size_inverted true = ap length pattern_inverted ∙ length-map (get_or ps i []) inverted
+    size_inverted false = refl
 
     pub literal_inverted : (j : ℕ) → j < length (get_or ps i []) → inverted (get_or (get_or ps i []) j past_end) ≡ get_or (get_or (invert_if true ps) i []) j past_end
     literal_inverted j k = sym (ap (λ p. get_or p j past_end) pattern_inverted ∙ get_or-map inverted (get_or ps i []) j past_end past_end k)

@@ -6,23 +6,23 @@ use Rattle.gates.specs.Nodes.{Node, known, Fits}
 use Rattle.gates.specs.GateClauses.{node_patterns}
 
 module _ (K : Kind) (node : Node) where
-  pub known-code : known K node ≡ true → node.code < K.codes
-  known-code e = ltb-true node.code K.codes (and_parts (ltb node.code K.codes) (eqb (length node.operands) (K.arity node.code)) e).0
+  pub known_code : known K node ≡ true → node.code < K.codes
+  known_code e = ltb-true node.code K.codes (and_parts (ltb node.code K.codes) (eqb (length node.operands) (K.arity node.code)) e).0
 
-  pub known-full : known K node ≡ true → length node.operands ≡ K.arity node.code
-  known-full e = eqb-true (length node.operands) (K.arity node.code) (and_parts (ltb node.code K.codes) (eqb (length node.operands) (K.arity node.code)) e).1
+  pub known_full : known K node ≡ true → length node.operands ≡ K.arity node.code
+  known_full e = eqb-true (length node.operands) (K.arity node.code) (and_parts (ltb node.code K.codes) (eqb (length node.operands) (K.arity node.code)) e).1
 
-  pub known-patterns : known K node ≡ true → node_patterns K node ≡ K.patterns node.code
-  known-patterns e = cond-true (known K node) (K.patterns node.code) [] e
+  pub known_patterns : known K node ≡ true → node_patterns K node ≡ K.patterns node.code
+  known_patterns e = cond-true (known K node) (K.patterns node.code) [] e
 
   pub known_pattern : (i : ℕ) → known K node ≡ true → get_or (node_patterns K node) i [] ≡ get_or (K.patterns node.code) i []
-  known_pattern i e = ap (λ ps. get_or ps i []) (known-patterns e)
+  known_pattern i e = ap (λ ps. get_or ps i []) (known_patterns e)
 
   pub known_within : (i : ℕ) → known K node ≡ true → i < length (node_patterns K node) → i < length (K.patterns node.code)
-  known_within i e h = omega (arith, ap length (known-patterns e))
+  known_within i e h = omega (arith, ap length (known_patterns e))
 
-  pub known-fits : (n : ℕ) → Fits K n node → known K node ≡ true
-  known-fits n f = and_from (ltb node.code K.codes) (eqb (length node.operands) (K.arity node.code)) (lt-ltb node.code K.codes f.in_codes) (eq-eqb (length node.operands) (K.arity node.code) f.full)
+  pub known_fits : (n : ℕ) → Fits K n node → known K node ≡ true
+  known_fits n f = and_from (ltb node.code K.codes) (eqb (length node.operands) (K.arity node.code)) (lt-ltb node.code K.codes f.in_codes) (eq-eqb (length node.operands) (K.arity node.code) f.full)
 
   -- a node that has a pattern is known
   pub known_since : (i : ℕ) → i < length (node_patterns K node) → known K node ≡ true

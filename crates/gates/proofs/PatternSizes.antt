@@ -47,15 +47,15 @@ stands l [] h = absurd h
 stands l (m ∷ p) (inl e) = let t : T (same_literal l m) = same_number l.slot m.slot l.negated m.negated e in grind arith
 stands l (m ∷ p) (inr h) = let ih : T (stands_in l p) = stands l p h in grind arith
 
-not-both : (b : Bool) → T (not b) → T b → ⊥
-not-both true t u = t
-not-both false t u = u
+not_both : (b : Bool) → T (not b) → T b → ⊥
+not_both true t u = t
+not_both false t u = u
 
 distinct_numbers : (k : ℕ) (p : List SlotLiteral) → T (well_formed k p) → Distinct (map number p)
 distinct_numbers k [] t = tt
 distinct_numbers k (l ∷ p) t =
     let rest : T (not (stands_in l p) && well_formed k p) = and_right (in_place k l.slot) _ t in
-    (λ h. not-both (stands_in l p) (and_left _ _ rest) (stands l p h), distinct_numbers k p (and_right (not (stands_in l p)) _ rest))
+    (λ h. not_both (stands_in l p) (and_left _ _ rest) (stands l p h), distinct_numbers k p (and_right (not (stands_in l p)) _ rest))
 
 numbers_below : (k : ℕ) (p : List SlotLiteral) → T (well_formed k p) → (x : ℕ) → Member x (map number p) → x < 2 * (k + 1)
 numbers_below k [] t x h = absurd h
@@ -68,24 +68,24 @@ pub short_pattern : (k : ℕ) (p : List SlotLiteral) → T (well_formed k p) →
 short_pattern k p t = rw (length-map p number) at (few_distinct (2 * (k + 1)) (map number p) (distinct_numbers k p t) (numbers_below k p t))
 
 -- every pattern of a list that is well-formed
-well_formed-at : (k : ℕ) (ps : List (List SlotLiteral)) (i : ℕ) → T (all_well_formed k ps) → T (well_formed k (get_or ps i []))
-well_formed-at k [] i t = tt
-well_formed-at k (p ∷ ps) zero t = and_left _ _ t
-well_formed-at k (p ∷ ps) (suc i) t = well_formed-at k ps i (and_right (well_formed k p) _ t)
+well_formed_at : (k : ℕ) (ps : List (List SlotLiteral)) (i : ℕ) → T (all_well_formed k ps) → T (well_formed k (get_or ps i []))
+well_formed_at k [] i t = tt
+well_formed_at k (p ∷ ps) zero t = and_left _ _ t
+well_formed_at k (p ∷ ps) (suc i) t = well_formed_at k ps i (and_right (well_formed k p) _ t)
 
 -- a pattern has at most 18 literals: two for each of eight operands and the output
 pub pattern_short : (K : Kind) → Sized K → (c i : ℕ) → c < K.codes → length (get_or (K.patterns c) i []) ≤ 18
 pattern_short K s c i h =
     let few : K.arity c ≤ 8 = s.few_operands c h in
-    omega (arith, short_pattern (K.arity c) (get_or (K.patterns c) i []) (well_formed-at (K.arity c) (K.patterns c) i (s.well_formed_patterns c h)))
+    omega (arith, short_pattern (K.arity c) (get_or (K.patterns c) i []) (well_formed_at (K.arity c) (K.patterns c) i (s.well_formed_patterns c h)))
 
 -- each literal of a well-formed pattern is over its operands and its output
-in_place-at : (k : ℕ) (p : List SlotLiteral) (j : ℕ) → T (well_formed k p) → j < length p → T (in_place k (get_or p j past_end).slot)
-in_place-at k [] j t h = absurd (omega arith)
-in_place-at k (l ∷ p) zero t h = and_left _ _ t
-in_place-at k (l ∷ p) (suc j) t h = in_place-at k p j (and_right (not (stands_in l p)) _ (and_right (in_place k l.slot) _ t)) (omega arith)
+in_place_at : (k : ℕ) (p : List SlotLiteral) (j : ℕ) → T (well_formed k p) → j < length p → T (in_place k (get_or p j past_end).slot)
+in_place_at k [] j t h = absurd (omega arith)
+in_place_at k (l ∷ p) zero t h = and_left _ _ t
+in_place_at k (l ∷ p) (suc j) t h = in_place_at k p j (and_right (not (stands_in l p)) _ (and_right (in_place k l.slot) _ t)) (omega arith)
 
 pub literal_in_place : (K : Kind) → Sized K → (c i j k : ℕ) (l : SlotLiteral) → c < K.codes → k ≡ K.arity c → j < length (get_or (K.patterns c) i []) → l ≡ get_or (get_or (K.patterns c) i []) j past_end → T (in_place k l.slot)
 literal_in_place K s c i j k l h e m f =
-    let p : T (in_place (K.arity c) (get_or (get_or (K.patterns c) i []) j past_end).slot) = in_place-at (K.arity c) (get_or (K.patterns c) i []) j (well_formed-at (K.arity c) (K.patterns c) i (s.well_formed_patterns c h)) m in
+    let p : T (in_place (K.arity c) (get_or (get_or (K.patterns c) i []) j past_end).slot) = in_place_at (K.arity c) (get_or (K.patterns c) i []) j (well_formed_at (K.arity c) (K.patterns c) i (s.well_formed_patterns c h)) m in
     rw (e, f) p

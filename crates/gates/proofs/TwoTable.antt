@@ -7,7 +7,7 @@ use Rattle.gates.specs.Kinds.{invert_if, inverted, past_end}
 use Rattle.gates.specs.TwoInput.{two_input, two_table, two_patterns, table_row}
 use Rattle.gates.specs.KindLaws.{two_input_sized}
 use Rattle.gates.proofs.PatternSizes.{pattern_short}
-use Rattle.gates.proofs.Inverting.{count_inverted, size-inverted, literal_inverted}
+use Rattle.gates.proofs.Inverting.{count_inverted, size_inverted, literal_inverted}
 
 module _ (c : ℕ) (h : c < 17) (rows : List (Bor (List SlotLiteral))) (e : map (λ x. x.now) rows ≡ get_or two_table (table_row c) []) where
   abbrev plain : List (List SlotLiteral)
@@ -34,7 +34,7 @@ module _ (c : ℕ) (h : c < 17) (rows : List (Bor (List SlotLiteral))) (e : map 
     row_is = sym (get_or-map (λ x. x.now) rows i d [] row_within) ∙ ap (λ ps. get_or ps i []) e
 
     pub size : length (get_or rows i d).now ≡ length (get_or (two_patterns c) i [])
-    size = ap length row_is ∙ sym (size-inverted plain i (omega (arith, row_within, table_count)) (leb 8 c))
+    size = ap length row_is ∙ sym (size_inverted plain i (omega (arith, row_within, table_count)) (leb 8 c))
 
     pub size_fits : length (get_or rows i d).now ≤ 18
     size_fits = omega (arith, size, pattern_short two_input two_input_sized c i h)

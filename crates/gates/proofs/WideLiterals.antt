@@ -4,24 +4,24 @@ use Rattle.gates.specs.declared.kinds.SlotLiteral.{SlotLiteral}
 use Rattle.gates.specs.declared.wide.WideFunction.{WideFunction}
 use Rattle.gates.specs.Kinds.{invert_if, inverted, past_end}
 use Rattle.gates.specs.WideGates.{function, disjunctive, inverting, wide_arity, plain_patterns, function_patterns}
-use Rattle.gates.proofs.Inverting.{count_inverted, size-inverted, literal_inverted}
+use Rattle.gates.proofs.Inverting.{count_inverted, size_inverted, literal_inverted}
 use Rattle.gates.proofs.WidePlaces.{plain_count}
 
-abbrev wide-patterns : ℕ → List (List SlotLiteral)
-wide-patterns code = function_patterns (function code) (wide_arity code)
+abbrev wide_patterns : ℕ → List (List SlotLiteral)
+wide_patterns code = function_patterns (function code) (wide_arity code)
 
-module _ (code i j : ℕ) (within : i < length (wide-patterns code)) (inside : j < length (get_or (wide-patterns code) i [])) (f : WideFunction) (o : Bool) (f-is : f ≡ function code) (o_is : o ≡ disjunctive f) where
+module _ (code i j : ℕ) (within : i < length (wide_patterns code)) (inside : j < length (get_or (wide_patterns code) i [])) (f : WideFunction) (o : Bool) (f_is : f ≡ function code) (o_is : o ≡ disjunctive f) where
   abbrev plain : List (List SlotLiteral)
   plain = plain_patterns (disjunctive (function code)) (wide_arity code)
 
   flag_is : o ≡ disjunctive (function code)
-  flag_is = o_is ∙ ap disjunctive f-is
+  flag_is = o_is ∙ ap disjunctive f_is
 
   plain_within : i < length plain
   plain_within = omega (arith, count_inverted plain (inverting (function code)))
 
   plain_inside : j < length (get_or plain i [])
-  plain_inside = omega (arith, size-inverted plain i plain_within (inverting (function code)))
+  plain_inside = omega (arith, size_inverted plain i plain_within (inverting (function code)))
 
   pub index_within : i ≤ wide_arity code
   index_within = omega (arith, plain_within, plain_count (disjunctive (function code)) (wide_arity code))
@@ -29,8 +29,8 @@ module _ (code i j : ℕ) (within : i < length (wide-patterns code)) (inside : j
   pub place_inside : j < length (get_or (plain_patterns o (wide_arity code)) i [])
   place_inside = subst (λ (b : Bool). j < length (get_or (plain_patterns b (wide_arity code)) i [])) (sym flag_is) plain_inside
 
-  pub inverted_is : true ≡ inverting f → inverted (get_or (get_or (plain_patterns o (wide_arity code)) i []) j past_end) ≡ get_or (get_or (wide-patterns code) i []) j past_end
+  pub inverted_is : true ≡ inverting f → inverted (get_or (get_or (plain_patterns o (wide_arity code)) i []) j past_end) ≡ get_or (get_or (wide_patterns code) i []) j past_end
   inverted_is e =
       ap (λ b. inverted (get_or (get_or (plain_patterns b (wide_arity code)) i []) j past_end)) flag_is
       ∙ literal_inverted plain i plain_within j plain_inside
-      ∙ ap (λ b. get_or (get_or (invert_if b plain) i []) j past_end) (e ∙ ap inverting f-is)
+      ∙ ap (λ b. get_or (get_or (invert_if b plain) i []) j past_end) (e ∙ ap inverting f_is)

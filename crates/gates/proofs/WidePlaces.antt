@@ -32,15 +32,15 @@ module _ (o : Bool) (k : ℕ) where
     short_is : pattern i ≡ short_pattern o i
     short_is = at_front (short_pattern o) (long_pattern o k) [] k i h
 
-    pub short-size : length (pattern i) ≡ 2
-    short-size = ap length short_is
+    pub short_size : length (pattern i) ≡ 2
+    short_size = ap length short_is
 
-    pub short-operand : (j : ℕ) → j ≡ 0 → record { slot = Operand i; negated = o } ≡ get_or (pattern i) j past_end
-    short-operand j e = sym (ap (λ p. get_or p j past_end) short_is ∙ ap (λ m. get_or (short_pattern o i) m past_end) e)
+    pub short_operand : (j : ℕ) → j ≡ 0 → record { slot = Operand i; negated = o } ≡ get_or (pattern i) j past_end
+    short_operand j e = sym (ap (λ p. get_or p j past_end) short_is ∙ ap (λ m. get_or (short_pattern o i) m past_end) e)
 
     pub short_output : (j : ℕ) → j ≢ 0 → j < length (pattern i) → record { slot = Output; negated = not o } ≡ get_or (pattern i) j past_end
     short_output j e l =
-        let one : j ≡ 1 = omega (arith, short-size) in
+        let one : j ≡ 1 = omega (arith, short_size) in
         sym (ap (λ p. get_or p j past_end) short_is ∙ ap (λ m. get_or (short_pattern o i) m past_end) one)
 
   module _ (i : ℕ) (h : k ≤ i) (l : i ≤ k) where

@@ -19,8 +19,8 @@ MadePlan K (Ok p) = WellMade K p × T (complete p)
 MadePlan K (Err e) = Unit {0}
 
 module _ (K : Kind) where
-  add_gate-made : (code : ℕ) (operands rest : List ℕ) (p : Plan) → WellMade K p → Made K (add_gate K code operands rest p)
-  add_gate-made code operands rest p made = go (gate_answer K p code operands) refl
+  add_gate_made : (code : ℕ) (operands rest : List ℕ) (p : Plan) → WellMade K p → Made K (add_gate K code operands rest p)
+  add_gate_made code operands rest p made = go (gate_answer K p code operands) refl
     where
       go : (r : Result ℕ Refusal) → gate_answer K p code operands ≡ r → Made K (elim r [ Ok s ↦ Read s rest (with_gate p (node code operands)) | Err e ↦ Fault e ])
       go (Ok s) q = ((plan_calls K).adds_gate p made code operands s q).0
@@ -34,27 +34,27 @@ module _ (K : Kind) where
       go true = made
       go false = tt
 
-  then_not-made : (o : Outcome) → Made K o → Made K (then_not K o)
-  then_not-made (Fault e) m = tt
-  then_not-made (Read s rest p) m = add_gate-made 16 (s ∷ []) rest p m
+  then_not_made : (o : Outcome) → Made K o → Made K (then_not K o)
+  then_not_made (Fault e) m = tt
+  then_not_made (Read s rest p) m = add_gate_made 16 (s ∷ []) rest p m
 
-  then_close-made : (code left : ℕ) (o : Outcome) → Made K o → Made K (then_close K code left o)
-  then_close-made code left (Fault e) m = tt
-  then_close-made code left (Read right [] p) m = tt
-  then_close-made code left (Read right (b ∷ bs) p) m = go (eqb b 41)
+  then_close_made : (code left : ℕ) (o : Outcome) → Made K o → Made K (then_close K code left o)
+  then_close_made code left (Fault e) m = tt
+  then_close_made code left (Read right [] p) m = tt
+  then_close_made code left (Read right (b ∷ bs) p) m = go (eqb b 41)
     where
       go : (t : Bool) → Made K (cond t (add_gate K code (left ∷ right ∷ []) bs p) (Fault BadLine))
-      go true = add_gate-made code (left ∷ right ∷ []) bs p m
+      go true = add_gate_made code (left ∷ right ∷ []) bs p m
       go false = tt
 
-  then_sign-made : (again : List ℕ → Plan → Outcome) → ((rest : List ℕ) (p : Plan) → WellMade K p → Made K (again rest p)) → (o : Outcome) → Made K o → Made K (then_sign K again o)
-  then_sign-made again more (Fault e) m = tt
-  then_sign-made again more (Read left [] p) m = tt
-  then_sign-made again more (Read left (b ∷ bs) p) m = go (sign_code b)
+  then_sign_made : (again : List ℕ → Plan → Outcome) → ((rest : List ℕ) (p : Plan) → WellMade K p → Made K (again rest p)) → (o : Outcome) → Made K o → Made K (then_sign K again o)
+  then_sign_made again more (Fault e) m = tt
+  then_sign_made again more (Read left [] p) m = tt
+  then_sign_made again more (Read left (b ∷ bs) p) m = go (sign_code b)
     where
       go : (o : Option ℕ) → Made K (then_right K again left o bs p)
       go None = tt
-      go (Some code) = then_close-made code left (again bs p) (more bs p m)
+      go (Some code) = then_close_made code left (again bs p) (more bs p m)
 
   deep : (t : Bool) (o : Outcome) → Made K o → Made K (cond t (Fault TooDeep) o)
   deep true o m = tt
@@ -69,19 +69,19 @@ module _ (K : Kind) where
   unfolding read
   read_made d [] p made = tt
   read_made zero (b ∷ bs) p made = deep (eqb b 45 || eqb b 40) _ (switch_made (number_answer (take (digit_count (b ∷ bs)) (b ∷ bs))) _ p made)
-  read_made (suc d) (b ∷ bs) p made = cases (eqb b 45) (eqb b 40) _ _ _ (then_not-made (read K d bs p) (read_made d bs p made)) (then_sign-made (read K d) (read_made d) (read K d bs p) (read_made d bs p made)) (switch_made (number_answer (take (digit_count (b ∷ bs)) (b ∷ bs))) _ p made)
+  read_made (suc d) (b ∷ bs) p made = cases (eqb b 45) (eqb b 40) _ _ _ (then_not_made (read K d bs p) (read_made d bs p made)) (then_sign_made (read K d) (read_made d) (read K d bs p) (read_made d bs p made)) (switch_made (number_answer (take (digit_count (b ∷ bs)) (b ∷ bs))) _ p made)
 
-  root-made : (o : Outcome) → Made K o → MadePlan K (then_root o)
-  root-made (Fault e) m = tt
-  root-made (Read s (b ∷ bs) p) m = tt
-  root-made (Read s [] p) m = go (root_answer p s) refl
+  root_made : (o : Outcome) → Made K o → MadePlan K (then_root o)
+  root_made (Fault e) m = tt
+  root_made (Read s (b ∷ bs) p) m = tt
+  root_made (Read s [] p) m = go (root_answer p s) refl
     where
       go : (r : Result (Unit {0}) Refusal) → root_answer p s ≡ r → MadePlan K (elim r [ Ok u ↦ Ok (with_root p s) | Err e ↦ Err e ])
       go (Ok tt) q = (plan_calls K).sets_root p m s q
       go (Err e) q = tt
 
-  pub formula-made : (p : Plan) (text : List ℕ) (q : Plan) → WellMade K p → formula_answer K p text ≡ Ok q → WellMade K q × T (complete q)
-  formula-made p text q made e = go (not (fresh p)) (ltb max_text (length text)) (then_root (read K max_nesting text p)) e (root-made (read K max_nesting text p) (read_made max_nesting text p made))
+  pub formula_made : (p : Plan) (text : List ℕ) (q : Plan) → WellMade K p → formula_answer K p text ≡ Ok q → WellMade K q × T (complete q)
+  formula_made p text q made e = go (not (fresh p)) (ltb max_text (length text)) (then_root (read K max_nesting text p)) e (root_made (read K max_nesting text p) (read_made max_nesting text p made))
     where
       got : (r : Result Plan Refusal) → r ≡ Ok q → MadePlan K r → WellMade K q × T (complete q)
       got (Ok x) h m = subst (λ (y : Plan). WellMade K y × T (complete y)) (cc) m

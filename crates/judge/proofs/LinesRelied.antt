@@ -16,7 +16,7 @@ use Rattle.verdicts.specs.declared.verdict_line.Verdict.{Verdict}
 use Rattle.verdicts.specs.declared.verdict_line.Verdict.TheVariants.{Stands, Refused}
 use Rattle.judge.specs.Judging.{plan_lined, formula_line, plan_lines, open_lines}
 use Rattle.judge.specs.Relying.{gate_form}
-use Rattle.judge.proofs.FormulaMade.{formula-made}
+use Rattle.judge.proofs.FormulaMade.{formula_made}
 
 holds_true : (b : Bool) → T b → b ≡ true
 holds_true true t = refl
@@ -83,14 +83,14 @@ module _ (K : Kind) (kind : PlanKind) where
     pub gates : List Node
     pub root : ℕ
     pub forms : fs ≡ map Ok (map gate_form gates ++ (lines.Root root ∷ [])) ++ others
-    pub complete-plan : q ≡ with_root (with_gates p gates) root
+    pub complete_plan : q ≡ with_root (with_gates p gates) root
 
   pub record ByFormula (p q : Plan) (fs others : List (Result Form Refusal)) : Type 0 where
     pub gates : List Node
     pub text : List ℕ
     pub two_input_plan : kind ≡ TwoInput
     pub forms : fs ≡ map Ok (map gate_form gates ++ (lines.Formula text ∷ [])) ++ others
-    pub complete-plan : formula_answer K (with_gates p gates) text ≡ Ok q
+    pub complete_plan : formula_answer K (with_gates p gates) text ≡ Ok q
 
   -- the lines make a plan, which is opened
   pub record Planned (p : Plan) (b : Book) (fs : List (Result Form Refusal)) (s : Standing) : Type 0 where
@@ -120,7 +120,7 @@ module _ (K : Kind) (kind : PlanKind) where
             gates = [];
             root = l.root;
             forms = ap (λ x. x ∷ fs) l.form;
-            complete-plan = l.after ∙ ap (λ (x : Plan). with_root x l.root) (sym (no_gates p));
+            complete_plan = l.after ∙ ap (λ (x : Plan). with_root x l.root) (sym (no_gates p));
           };
           line = k + 1;
           stands = rw done at h;
@@ -128,7 +128,7 @@ module _ (K : Kind) (kind : PlanKind) where
 
     by_the_formula : FormulaLine p q f → (cond (complete q) (open_lines K q b (k + 1) fs) (plan_lines K kind q b (k + 1) fs)).0 ≡ Stands s → Planned p b (f ∷ fs) s
     by_the_formula l h =
-        let is = formula-made K p l.text q made l.after in
+        let is = formula_made K p l.text q made l.after in
         let done : complete q ≡ true = holds_true (complete q) is.1 in
         record {
           plan = q;
@@ -139,7 +139,7 @@ module _ (K : Kind) (kind : PlanKind) where
             text = l.text;
             two_input_plan = l.two_input_plan;
             forms = ap (λ x. x ∷ fs) l.form;
-            complete-plan = subst (λ (x : Plan). formula_answer K x l.text ≡ Ok q) (sym (no_gates p)) l.after;
+            complete_plan = subst (λ (x : Plan). formula_answer K x l.text ≡ Ok q) (sym (no_gates p)) l.after;
           };
           line = k + 1;
           stands = rw done at h;
@@ -160,14 +160,14 @@ module _ (K : Kind) (kind : PlanKind) where
               gates = g ∷ r.gates;
               root = r.root;
               forms = cc (l.form, r.forms);
-              complete-plan = r.complete-plan ∙ ap (λ (x : Plan). with_root x r.root) (same r.gates);
+              complete_plan = r.complete_plan ∙ ap (λ (x : Plan). with_root x r.root) (same r.gates);
             }
             | inr r ↦ inr record {
               gates = g ∷ r.gates;
               text = r.text;
               two_input_plan = r.two_input_plan;
               forms = cc (l.form, r.forms);
-              complete-plan = subst (λ (x : Plan). formula_answer K x r.text ≡ Ok more.plan) (same r.gates) r.complete-plan;
+              complete_plan = subst (λ (x : Plan). formula_answer K x r.text ≡ Ok more.plan) (same r.gates) r.complete_plan;
             }
           ];
           line = more.line;

@@ -19,9 +19,9 @@ pub record ComesTo (K : Kind) (d : Docket) (s : Standing) : Type 0 where
   pub stands : (run K d calls).standing ≡ s
 
 -- a granted line is one step of a call
-granted-step : (K : Kind) (d e : Docket) (o : Option Call) → made K d o ≡ Ok e → (c : Call) × (step K d c ≡ e)
-granted-step K d e None h = let z : ◌≡◌ {A = ℕ} 0 1 = cc in absurd (omega arith)
-granted-step K d e (Some c) h = (c, go (answer K d c) h)
+granted_step : (K : Kind) (d e : Docket) (o : Option Call) → made K d o ≡ Ok e → (c : Call) × (step K d c ≡ e)
+granted_step K d e None h = let z : ◌≡◌ {A = ℕ} 0 1 = cc in absurd (omega arith)
+granted_step K d e (Some c) h = (c, go (answer K d c) h)
   where
     go : (r : Result ℕ Refusal) → ◌≡◌ {A = Result Docket Refusal} (elim r [ Ok x ↦ Ok (changed K d c) | Err x ↦ Err x ]) (Ok e) → granted r (changed K d c) d ≡ e
     go (Ok x) q = cc
@@ -29,7 +29,7 @@ granted-step K d e (Some c) h = (c, go (answer K d c) h)
 
 line_step : (K : Kind) (d e : Docket) (f : Result Form Refusal) → step_line K d f ≡ Ok e → (c : Call) × (step K d c ≡ e)
 line_step K d e (Err x) h = let z : ◌≡◌ {A = ℕ} 0 1 = cc in absurd (omega arith)
-line_step K d e (Ok f) h = granted-step K d e (call_in d.plan.switches f) h
+line_step K d e (Ok f) h = granted_step K d e (call_in d.plan.switches f) h
 
 pub steps_come_to : (K : Kind) (fs : List (Result Form Refusal)) (d : Docket) (k : ℕ) (s : Standing) → (step_lines K d k fs).0 ≡ Stands s → ComesTo K d s
 steps_come_to K [] d k s e = record { calls = []; stands = cc }

@@ -47,18 +47,18 @@ record About (text : List ℕ) (b : Book) (s : Standing) : Type 0 where
   granted_open : open_answer (kind_named kind) plan b ≡ Ok tt
   comes : ComesTo (kind_named kind) (opened (kind_named kind) plan b) s
 
-few-switches : (n : ℕ) → begin_answer n ≡ Ok tt → n ≤ max_switches
-few-switches n e =
+few_switches : (n : ℕ) → begin_answer n ≡ Ok tt → n ≤ max_switches
+few_switches n e =
     let (none, more) = (none_hold (if Size (not (leb 1 n && leb n max_switches)) ∷ []) tt tt e).0 in
     leb-true n max_switches (and_parts (leb 1 n) (leb n max_switches) (not-false (leb 1 n && leb n max_switches) none)).1
 
 -- the lines are read by how they are spelled, and a formula by how it is spelled
-module _ (spelt-lines : LineLaw) (formula-law : (p : Plan) (text : List ℕ) (q : Plan) → p.switches ≤ max_switches → formula_answer two_input p text ≡ Ok q → (fresh p ≡ true) × Spelt p.switches text q) where
+module _ (spelt_lines : LineLaw) (formula_law : (p : Plan) (text : List ℕ) (q : Plan) → p.switches ≤ max_switches → formula_answer two_input p text ≡ Ok q → (fresh p ≡ true) × Spelt p.switches text q) where
   stated_by_root : (kind : PlanKind) (text : List ℕ) (n : ℕ) (q : Plan) (fs others : List (Result Form Refusal)) → forms_of text ≡ Ok (lines.Plan kind n) ∷ fs → ByRoot (kind_named kind) kind (begun n) q fs others → States kind text q
   stated_by_root kind text n q fs others e by =
       let all : List Form = lines.Plan kind n ∷ (map gate_form by.gates ++ (lines.Root by.root ∷ [])) in
-      let spelt = begins_with spelt-lines all text others (e ∙ ap (λ x. Ok (lines.Plan kind n) ∷ x) by.forms) in
-      inl (subst (StatedByLines kind text) (sym by.complete-plan) record { root = by.root; is_root = refl; behind = spelt.behind; spelt = spelt.spelt })
+      let spelt = begins_with spelt_lines all text others (e ∙ ap (λ x. Ok (lines.Plan kind n) ∷ x) by.forms) in
+      inl (subst (StatedByLines kind text) (sym by.complete_plan) record { root = by.root; is_root = refl; behind = spelt.behind; spelt = spelt.spelt })
 
   no_gates_before : (n : ℕ) (gs : List Node) → fresh (with_gates two_input TwoInput (begun n) gs) ≡ true → gs ≡ []
   no_gates_before n gs e = nil_from_length gs (eqb-true (length gs) 0 e)
@@ -66,10 +66,10 @@ module _ (spelt-lines : LineLaw) (formula-law : (p : Plan) (text : List ℕ) (q 
   stated_by_formula : (kind : PlanKind) (text : List ℕ) (n : ℕ) → n ≤ max_switches → (q : Plan) (fs others : List (Result Form Refusal)) → forms_of text ≡ Ok (lines.Plan kind n) ∷ fs → ByFormula (kind_named kind) kind (begun n) q fs others → States kind text q
   stated_by_formula Wide text n small q fs others e by = let w : Wide ≡ TwoInput = by.two_input_plan in let z : ◌≡◌ {A = ℕ} 0 1 = cc in absurd (omega arith)
   stated_by_formula TwoInput text n small q fs others e by =
-      let (is_fresh, law) = formula-law (with_gates two_input TwoInput (begun n) by.gates) by.text q small by.complete-plan in
+      let (is_fresh, law) = formula_law (with_gates two_input TwoInput (begun n) by.gates) by.text q small by.complete_plan in
       let none : by.gates ≡ [] = no_gates_before n by.gates is_fresh in
       let forms : fs ≡ Ok (lines.Formula by.text) ∷ others = by.forms ∙ ap (λ gs. map Ok (map gate_form gs ++ (lines.Formula by.text ∷ [])) ++ others) none in
-      let spelt = begins_with spelt-lines (lines.Plan TwoInput n ∷ lines.Formula by.text ∷ []) text others (e ∙ ap (λ x. Ok (lines.Plan TwoInput n) ∷ x) forms) in
+      let spelt = begins_with spelt_lines (lines.Plan TwoInput n ∷ lines.Formula by.text ∷ []) text others (e ∙ ap (λ x. Ok (lines.Plan TwoInput n) ∷ x) forms) in
       inr (subst (StatedByFormula TwoInput text) (sym law.stated) record {
         two_input_plan = refl;
         formula = law.formula;
@@ -91,7 +91,7 @@ module _ (spelt-lines : LineLaw) (formula-law : (p : Plan) (text : List ℕ) (q 
           let K = kind_named kind in
           let plans = planned K kind fs (begun n) ((plan_calls K).begins n q) refl b 1 s i in
           let comes = opens_come_to K plans.plan b plans.line plans.others s plans.stands in
-          record { kind = kind; plan = plans.plan; states = stated (few-switches n q) plans.plan plans.others plans.by; made = plans.made; granted_open = comes.0; comes = comes.1 }
+          record { kind = kind; plan = plans.plan; states = stated (few_switches n q) plans.plan plans.others plans.by; made = plans.made; granted_open = comes.0; comes = comes.1 }
 
   about : (text : List ℕ) (b : Book) (s : Standing) → (judged b text).0 ≡ Stands s → About text b s
   about text b s e = long (ltb max_text (length text)) e

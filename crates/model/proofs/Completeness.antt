@@ -17,7 +17,7 @@ use Rattle.gates.specs.GateClauses.{GateLaw}
 use Rattle.books.specs.Book.{Book, given, clause_at, free_numbers, free_cells, written}
 use Rattle.books.specs.Promise.{granted}
 use Rattle.books.proofs.BookAnswers.{write_granted}
-use Rattle.books.proofs.BookLaws.{written_stands, written-free_numbers, written-free_cells}
+use Rattle.books.proofs.BookLaws.{written_stands, written_free_numbers, written_free_cells}
 use Rattle.model.specs.declared.standing.Standing.TheVariants.{Open, CannotRun}
 use Rattle.model.specs.Standings.{closed}
 use Rattle.model.specs.Plans.{Plan, WellMade, signals, complete, plan_clauses}
@@ -25,11 +25,11 @@ use Rattle.model.specs.Dockets.{Docket, open_reasons, open_answer, opened}
 use Rattle.model.specs.Calls.{Call, Resolve, Settle, answer, step, run, with_book, with_standing, resolvent_of, resolvent, write_resolvent, resolve_answer, with_resolvent, settle_found, settle_answer}
 use Rattle.model.specs.PlanLaw.{CannotBeRun}
 use Rattle.model.specs.Law.{AllGranted, resolve_of, Refutation, RoomFor}
-use Rattle.model.proofs.Exactness.{plan-exact}
+use Rattle.model.proofs.Exactness.{plan_exact}
 use Rattle.model.proofs.Written.{fails_in, written_keeps, all_written_has}
 use Rattle.model.proofs.Shapes.{plan_shaped}
 use Rattle.model.proofs.Reasons.{none_hold}
-use Rattle.model.proofs.Refuting.{full as full-tree, full_power, Resolves, Keeps, Found, refutation}
+use Rattle.model.proofs.Refuting.{full as full_tree, full_power, Resolves, Keeps, Found, refutation}
 use Rattle.model.proofs.Soundness.{literal_alike}
 
 -- the clause xs stands under the number i
@@ -68,7 +68,7 @@ module _ (K : Kind) (n : ℕ) (small : n ≤ 20) where
         (ap is_ok ans, ap₂ (λ a q. granted a (with_resolvent d q) d) ans (resolve_is d i j c xs ys si sj one)),
         (λ k x h. written_keeps d.book z k x h),
         written_stands d.book z,
-        (room.0, omega (arith, room.1, written-free_numbers d.book z number), omega (arith, room.2, written-free_cells d.book z cells)),
+        (room.0, omega (arith, room.1, written_free_numbers d.book z number), omega (arith, room.2, written_free_cells d.book z cells)),
       )
 
   -- the calls of the tree, all granted, and then the settle
@@ -87,16 +87,16 @@ module _ (v : ℕ → Bool) (n : ℕ) where
   abbrev listed : List Bool
   listed = map v (range_with_len 1 n)
 
-  listed-length : length listed ≡ n
-  listed-length = length-map-range_with_len v 1 n
+  listed_length : length listed ≡ n
+  listed_length = length-map-range_with_len v 1 n
 
   listed_value : (s : ℕ) → 1 ≤ s → s ≤ n → value_at listed s ≡ v s
   listed_value zero low high = absurd (omega arith)
   listed_value (suc i) low high = get_or-map-range_with_len v 1 n i (suc i) false (omega arith) (omega arith)
 
 module _ (K : Kind) (law : GateLaw K) (p : Plan) (made : WellMade K p) (b : Book) (granted_open : open_answer K p b ≡ Ok tt) where
-  complete-plan : T (complete p)
-  complete-plan = subst T (sym (not-false (complete p) (none_hold (open_reasons K p b) tt tt granted_open).0.0)) tt
+  complete_plan : T (complete p)
+  complete_plan = subst T (sym (not-false (complete p) (none_hold (open_reasons K p b) tt tt granted_open).0.0)) tt
 
   -- under any values of the signals some clause of the plan fails
   module _ (unsat : CannotBeRun K p) (v : ℕ → Bool) where
@@ -111,11 +111,11 @@ module _ (K : Kind) (law : GateLaw K) (p : Plan) (made : WellMade K p) (b : Book
 
     not_all : T (all_hold (value_at us) (plan_clauses K p)) → ⊥
     not_all h =
-        let n = listed-length v (signals p) in
+        let n = listed_length v (signals p) in
         let l : length setting ≡ p.switches = length-take-le p.switches us (omega arith) in
         let m : length chosen ≡ length p.gates = omega (arith, length-drop p.switches us) in
         unsat setting l
-        ((plan-exact K law p made complete-plan setting l).some_choice.1
+        ((plan_exact K law p made complete_plan setting l).some_choice.1
         (chosen, m, subst (λ (ws : List Bool). T (all_hold (value_at ws) (plan_clauses K p))) (sym (take-append-drop p.switches us)) h))
 
     failing : Found Stands v (signals p) (opened K p b)
@@ -139,14 +139,14 @@ module _ (K : Kind) (law : GateLaw K) (p : Plan) (made : WellMade K p) (b : Book
   refutable small room unsat =
       let n = signals p in
       let power = full_power n in
-      let enough : Room K n small (full-tree n + 1) (opened K p b) = subst (λ (m : ℕ). Room K n small m (opened K p b)) (sym power) (refl, room.0, room.1) in
+      let enough : Room K n small (full_tree n + 1) (opened K p b) = subst (λ (m : ℕ). Room K n small m (opened K p b)) (sym power) (refl, room.0, room.1) in
       let (cs, t, k, resolves, few, empty, left) = refutation Docket Stands (Step K n small) (Room K n small) n (less K n small) (grant K n small) 1 (opened K p b) enough (λ v. failing unsat v) in
       let settle = settled K n small t k left.0 empty in
-      let (granted-calls, same) = ran K n small (opened K p b) t cs (Settle k ∷ []) resolves ((ap is_ok settle, tt)) in
+      let (granted_calls, same) = ran K n small (opened K p b) t cs (Settle k ∷ []) resolves ((ap is_ok settle, tt)) in
       record {
         pairs = cs;
         number = k;
         few = omega (arith, power);
-        granted_all = granted-calls;
+        granted_all = granted_calls;
         ends = ap (λ (d : Docket). d.standing) same ∙ ap (λ (r : Result ℕ Refusal). (granted r (with_standing t CannotRun) t).standing) settle;
       }

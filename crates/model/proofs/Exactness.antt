@@ -53,25 +53,25 @@ module _ (K : Kind) (law : GateLaw K) where
         let q : x ≡ nv = sym (value_next vs x xs n l) ∙ ap (λ us. value_at us (n + 1)) (e ∙ w ∙ append_assoc vs (nv ∷ []) ws) ∙ value_next vs nv ws n l in
         subst T (sym split) (both _ _ (first.1 q) (rest.1 (e ∙ ap (λ y. values_of K gs (vs ++ y ∷ [])) (sym q))))
 
-    step-exact : T (all_hold (value_at (vs ++ x ∷ xs)) (nodes_clauses K n (g ∷ gs))) ↔ (vs ++ x ∷ xs ≡ values_of K (g ∷ gs) vs)
-    step-exact = (there, back)
+    step_exact : T (all_hold (value_at (vs ++ x ∷ xs)) (nodes_clauses K n (g ∷ gs))) ↔ (vs ++ x ∷ xs ≡ values_of K (g ∷ gs) vs)
+    step_exact = (there, back)
 
   pub nodes_exact : (n : ℕ) (gs : List Node) (vs chosen : List Bool) → length vs ≡ n → AllFit K n gs → length chosen ≡ length gs → T (all_hold (value_at (vs ++ chosen)) (nodes_clauses K n gs)) ↔ (vs ++ chosen ≡ values_of K gs vs)
   nodes_exact n [] vs [] l fit m = (λ _. append-nil vs, λ _. tt)
   nodes_exact n [] vs (x ∷ xs) l fit m = absurd (omega arith)
   nodes_exact n (g ∷ gs) vs [] l fit m = absurd (omega arith)
   nodes_exact n (g ∷ gs) vs (x ∷ xs) l fit m =
-      step-exact n g gs vs x xs l fit.0 (nodes_exact (n + 1) gs (vs ++ x ∷ []) xs (length_push vs x ∙ ap (λ k. k + 1) l) fit.1 (omega arith))
+      step_exact n g gs vs x xs l fit.0 (nodes_exact (n + 1) gs (vs ++ x ∷ []) xs (length_push vs x ∙ ap (λ k. k + 1) l) fit.1 (omega arith))
 
   value_plain : (v : ℕ → Bool) (r : ℕ) → literal_value v (literal_of r false) ≡ v r
   unfolding literal_value
   value_plain v r = grind arith
 
-  root-holds : (v : ℕ → Bool) (r : ℕ) → all_hold v (root_clauses (Some r)) ≡ v r
-  root-holds v r = let e = value_plain v r in grind (arith, e)
+  root_holds : (v : ℕ → Bool) (r : ℕ) → all_hold v (root_clauses (Some r)) ≡ v r
+  root_holds v r = let e = value_plain v r in grind (arith, e)
 
-  pub plan-exact : (p : Plan) → WellMade K p → T (complete p) → (setting : List Bool) → SettingOf p.switches setting → Exact K p setting
-  plan-exact p made full setting l = go p.root refl full
+  pub plan_exact : (p : Plan) → WellMade K p → T (complete p) → (setting : List Bool) → SettingOf p.switches setting → Exact K p setting
+  plan_exact p made full setting l = go p.root refl full
     where
       clauses : Option ℕ → List (List ℕ)
       clauses o = nodes_clauses K p.switches p.gates ++ root_clauses o
@@ -84,7 +84,7 @@ module _ (K : Kind) (law : GateLaw K) where
           split v =
               ap (λ o. all_hold v (nodes_clauses K p.switches p.gates ++ root_clauses o)) e
               ∙ all_hold-append v (nodes_clauses K p.switches p.gates) (root_clauses (Some r))
-              ∙ ap (λ b. all_hold v (nodes_clauses K p.switches p.gates) && b) (root-holds v r)
+              ∙ ap (λ b. all_hold v (nodes_clauses K p.switches p.gates) && b) (root_holds v r)
 
           truth : true_under K p setting ≡ value_at (plan_values K p setting) r
           truth = ap (λ o. elim o as (λ _. Bool) [ Some r ↦ value_at (plan_values K p setting) r | None ↦ false ]) e

@@ -12,7 +12,7 @@ use Rattle.model.specs.Plans.{node, are_signals, true_under}
 use Rattle.model.specs.Settings.{setting_of, count_on}
 use Rattle.model.specs.Dockets.{Docket, in_use}
 use Rattle.model.specs.Calls.{define_reasons, define_answer, resolvent_of, resolvent, write_resolvent, resolve_answer, with_resolvent, strike_found, strike_answer, settle_found, settle_answer, show_reasons, show_answer, with_book}
-use Rattle.model.proofs.Reasons.{none_hold, signals-earlier}
+use Rattle.model.proofs.Reasons.{none_hold, signals_earlier}
 
 -- a definition that is granted fits, and is the next signal
 pub define_granted : (K : Kind) (d : Docket) (z code : ℕ) (operands : List ℕ) (x : ℕ) → define_answer K d z code operands ≡ Ok x → Fits K (in_use d) (node code operands) × (z ≡ in_use d + 1)
@@ -21,7 +21,7 @@ define_granted K d z code operands x e =
       record {
         in_codes = leb-false K.codes code coded;
         full = eqb-true (length operands) (K.arity code) (not-false (eqb (length operands) (K.arity code)) counted);
-        earlier = signals-earlier (in_use d) operands (not-false (are_signals (in_use d) operands) there);
+        earlier = signals_earlier (in_use d) operands (not-false (are_signals (in_use d) operands) there);
       },
       eqb-true z (in_use d + 1) (not-false (eqb z (in_use d + 1)) new),
     )
@@ -63,7 +63,7 @@ pub record Resolving (d : Docket) (a b : ℕ) (c : List ℕ) : Type 0 where
   pub left : List ℕ
   pub right : List ℕ
   pub pivot : ℕ
-  pub left-stands : clause_at d.book a ≡ Some left
+  pub left_stands : clause_at d.book a ≡ Some left
   pub right_stands : clause_at d.book b ≡ Some right
   pub one_clash : clashes left right ≡ pivot ∷ []
   pub merges : merged left right ≡ c
@@ -73,11 +73,11 @@ only_one [] s e = absurd (refused e)
 only_one (t ∷ []) s e = cc
 only_one (t ∷ u ∷ ss) s e = absurd (refused e)
 
-resolvent-granted : (d : Docket) (a b : ℕ) (c : List ℕ) → resolvent d a b ≡ Ok c → Resolving d a b c
-resolvent-granted d a b c e = go (clause_at d.book a) (clause_at d.book b) refl refl e
+resolvent_granted : (d : Docket) (a b : ℕ) (c : List ℕ) → resolvent d a b ≡ Ok c → Resolving d a b c
+resolvent_granted d a b c e = go (clause_at d.book a) (clause_at d.book b) refl refl e
   where
     clash : (xs ys : List ℕ) → clause_at d.book a ≡ Some xs → clause_at d.book b ≡ Some ys → (r : Result ℕ Refusal) → only (clashes xs ys) ≡ r → elim r as (λ _. Result (List ℕ) Refusal) [ Err e ↦ Err e | Ok s ↦ Ok (merged xs ys) ] ≡ Ok c → Resolving d a b c
-    clash xs ys p q (Ok s) r f = record { left = xs; right = ys; pivot = s; left-stands = p; right_stands = q; one_clash = only_one (clashes xs ys) s r; merges = cc }
+    clash xs ys p q (Ok s) r f = record { left = xs; right = ys; pivot = s; left_stands = p; right_stands = q; one_clash = only_one (clashes xs ys) s r; merges = cc }
     clash xs ys p q (Err g) r f = absurd (refused f)
 
     go : (o q : Option (List ℕ)) → clause_at d.book a ≡ o → clause_at d.book b ≡ q → resolvent_of o q ≡ Ok c → Resolving d a b c
@@ -90,5 +90,5 @@ pub resolve_granted : (d : Docket) (a b x : ℕ) → resolve_answer d a b ≡ Ok
 resolve_granted d a b x e = go (resolvent d a b) refl (opened_then (closed d.standing) _ x e)
   where
     go : (r : Result (List ℕ) Refusal) → resolvent d a b ≡ r → write_resolvent d.book r ≡ Ok x → (c : List ℕ) × Resolving d a b c × (with_resolvent d (resolvent d a b) ≡ with_book d (written d.book c))
-    go (Ok c) q f = (c, resolvent-granted d a b c q, ap (with_resolvent d) q)
+    go (Ok c) q f = (c, resolvent_granted d a b c q, ap (with_resolvent d) q)
     go (Err g) q f = absurd (refused f)

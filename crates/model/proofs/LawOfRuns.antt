@@ -15,9 +15,9 @@ use Rattle.model.specs.Dockets.{Docket, open_answer, opened}
 use Rattle.model.specs.Calls.{Call, Define, Resolve, Strike, Settle, Show, answer, changed, run}
 use Rattle.model.specs.PlanLaw.{CannotBeRun}
 use Rattle.model.specs.Law.{Shown, Sound, Final, LawOfEveryRun}
-use Rattle.model.proofs.Exactness.{plan-exact}
+use Rattle.model.proofs.Exactness.{plan_exact}
 use Rattle.model.proofs.Soundness.{Right, run_right, open_right}
-use Rattle.model.proofs.Showing.{run-plan, runs_shown}
+use Rattle.model.proofs.Showing.{run_plan, runs_shown}
 use Rattle.model.proofs.Completeness.{refutable}
 use Rattle.model.proofs.Opening.{opens}
 use Rattle.model.proofs.PlanCalls.{plan_calls}
@@ -34,28 +34,28 @@ module _ (K : Kind) (law : GateLaw K) where
       right = run_right K law (opened K p b) (open_right K law p made b e) calls
 
       same : (run K (opened K p b) calls).plan ≡ p
-      same = run-plan K (opened K p b) calls
+      same = run_plan K (opened K p b) calls
 
       go : (k : ℕ) → ((opened K p b).standing ≡ Runs k) ⊎ Shown K (opened K p b) calls k → Shown K (opened K p b) calls k
       go k (inl s) = let z : ◌≡◌ {A = ℕ} 0 1 = cc in absurd (omega arith)
       go k (inr s) = s
 
-closed-refuses : (K : Kind) (d : Docket) → closed d.standing ≡ true → (c : Call) → answer K d c ≡ Err Closed
-closed-refuses K d e (Define z code operands) = cond-true (closed d.standing) _ _ e
-closed-refuses K d e (Resolve a b) = cond-true (closed d.standing) _ _ e
-closed-refuses K d e (Strike k) = cond-true (closed d.standing) _ _ e
-closed-refuses K d e (Settle k) = cond-true (closed d.standing) _ _ e
-closed-refuses K d e (Show bytes) = cond-true (closed d.standing) _ _ e
+closed_refuses : (K : Kind) (d : Docket) → closed d.standing ≡ true → (c : Call) → answer K d c ≡ Err Closed
+closed_refuses K d e (Define z code operands) = cond-true (closed d.standing) _ _ e
+closed_refuses K d e (Resolve a b) = cond-true (closed d.standing) _ _ e
+closed_refuses K d e (Strike k) = cond-true (closed d.standing) _ _ e
+closed_refuses K d e (Settle k) = cond-true (closed d.standing) _ _ e
+closed_refuses K d e (Show bytes) = cond-true (closed d.standing) _ _ e
 
-closed-final : (K : Kind) (d : Docket) → closed d.standing ≡ true → (c : Call) → Final K d c
-closed-final K d e c = let r = closed-refuses K d e c in record { refuses = r; stays = ap (λ a. granted a (changed K d c) d) r }
+closed_final : (K : Kind) (d : Docket) → closed d.standing ≡ true → (c : Call) → Final K d c
+closed_final K d e c = let r = closed_refuses K d e c in record { refuses = r; stays = ap (λ a. granted a (changed K d c) d) r }
 
 pub law_of_every_run : (K : Kind) → Lawful K → kinds.Sized K → LawOfEveryRun K
 law_of_every_run K lawful sized = record {
   plans = plan_calls K;
-  exact = plan-exact K (gate_law K lawful sized);
+  exact = plan_exact K (gate_law K lawful sized);
   opens = opens K;
   sound = run_sound K (gate_law K lawful sized);
-  final = closed-final K;
+  final = closed_final K;
   complete_for_small = λ p made b e small room unsat. refutable K (gate_law K lawful sized) p made b e small room unsat;
 }

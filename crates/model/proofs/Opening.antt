@@ -3,7 +3,7 @@ use Rattle.std.proofs.Common.{◌≡◌, ℕ, zero, suc, ◌+◌, ◌<◌, ◌�
 use Rattle.std.proofs.lemmas.Bool.{leb-true, le-leb, eqb-true, eq-eqb, not-false, not_from_true, and_parts, and_from, cond-false}
 use Rattle.gates.specs.Kinds.{Kind}
 use Rattle.books.specs.Book.{Book, given, clause_at, free_numbers, free_cells, written}
-use Rattle.books.proofs.BookLaws.{written-given, written_stands}
+use Rattle.books.proofs.BookLaws.{written_given, written_stands}
 use Rattle.model.specs.Plans.{Plan, complete, plan_clauses}
 use Rattle.model.specs.Dockets.{literal_count, has_room, all_written, open_reasons, open_answer, opened}
 use Rattle.model.specs.Law.{Opens}
@@ -11,15 +11,15 @@ use Rattle.model.proofs.Reasons.{none_hold}
 use Rattle.model.proofs.Written.{all_written_keeps}
 
 -- clauses written one after another have the next numbers in order
-written-in_order : (b : Book) (cs : List (List ℕ)) (k : ℕ) → k < length cs → clause_at (all_written b cs) (given b + 1 + k) ≡ Some (get_or cs k [])
-written-in_order b [] k h = absurd (omega arith)
-written-in_order b (c ∷ cs) zero h =
+written_in_order : (b : Book) (cs : List (List ℕ)) (k : ℕ) → k < length cs → clause_at (all_written b cs) (given b + 1 + k) ≡ Some (get_or cs k [])
+written_in_order b [] k h = absurd (omega arith)
+written_in_order b (c ∷ cs) zero h =
     let n : given b + 1 + 0 ≡ given b + 1 = omega arith in
     ap (clause_at (all_written (written b c) cs)) n ∙ all_written_keeps (written b c) cs (given b + 1) c (written_stands b c)
-written-in_order b (c ∷ cs) (suc k) h =
-    let g = written-given b c in
+written_in_order b (c ∷ cs) (suc k) h =
+    let g = written_given b c in
     let n : given b + 1 + suc k ≡ given (written b c) + 1 + k = omega (arith, g) in
-    ap (clause_at (all_written (written b c) cs)) n ∙ written-in_order (written b c) cs k (omega arith)
+    ap (clause_at (all_written (written b c) cs)) n ∙ written_in_order (written b c) cs k (omega arith)
 
 holds_true : (b : Bool) → T b → b ≡ true
 holds_true true t = refl
@@ -50,7 +50,7 @@ module _ (K : Kind) (p : Plan) (b : Book) where
   in_order e k h =
       let unused = (only_if e).1 in
       let n : k + 1 ≡ given b + 1 + k = omega (arith, unused) in
-      ap (clause_at (all_written b cs)) n ∙ written-in_order b cs k h
+      ap (clause_at (all_written b cs)) n ∙ written_in_order b cs k h
 
   pub opens : Opens K p b
   opens = record { granted_if = granted_if; only_if = only_if; in_order = in_order }

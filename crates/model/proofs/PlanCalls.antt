@@ -9,7 +9,7 @@ use Rattle.gates.specs.Nodes.{Node, Fits}
 use Rattle.model.specs.Refusing.{if}
 use Rattle.model.specs.Plans.{Plan, node, WellMade, AllFit, signals, complete, is_signal, are_signals, begin_answer, begun, gate_reasons, gate_answer, with_gate, root_answer, with_root}
 use Rattle.model.specs.PlanLaw.{PlanCalls}
-use Rattle.model.proofs.Reasons.{none_hold, signals-earlier}
+use Rattle.model.proofs.Reasons.{none_hold, signals_earlier}
 
 pub all_fit_push : (K : Kind) (n : ℕ) (gs : List Node) (g : Node) → AllFit K n gs → Fits K (n + length gs) g → AllFit K n (gs ++ g ∷ [])
 all_fit_push K n [] g a f = (subst (λ (m : ℕ). Fits K m g) (omega arith) f, tt)
@@ -35,7 +35,7 @@ adds_gate K p made code operands s e =
     let fits : Fits K (signals p) (node code operands) = record {
       in_codes = leb-false K.codes code coded;
       full = eqb-true (length operands) (K.arity code) (not-false (eqb (length operands) (K.arity code)) counted);
-      earlier = signals-earlier (signals p) operands (not-false (are_signals (signals p) operands) there);
+      earlier = signals_earlier (signals p) operands (not-false (are_signals (signals p) operands) there);
     } in (
       record {
         some_switch = made.some_switch;

@@ -18,9 +18,9 @@ none_hold (r ∷ rs) a x e = go r.holds_here refl e (none_hold rs a x)
     go true q f ih = let z : ◌≡◌ {A = ℕ} 0 1 = cc in absurd (omega arith)
     go false q f ih = let h = ih f in ((q, h.0), h.1)
 
-pub signals-earlier : (n : ℕ) (ss : List ℕ) → are_signals n ss ≡ true → Earlier n ss
-signals-earlier n [] e j h = absurd (omega arith)
-signals-earlier n (s ∷ ss) e zero h =
+pub signals_earlier : (n : ℕ) (ss : List ℕ) → are_signals n ss ≡ true → Earlier n ss
+signals_earlier n [] e j h = absurd (omega arith)
+signals_earlier n (s ∷ ss) e zero h =
     let here = and_parts (leb 1 s) (leb s n) (and_parts (is_signal n s) (are_signals n ss) e).0 in
     (leb-true 1 s here.0, leb-true s n here.1)
-signals-earlier n (s ∷ ss) e (suc j) h = signals-earlier n ss (and_parts (is_signal n s) (are_signals n ss) e).1 j (omega arith)
+signals_earlier n (s ∷ ss) e (suc j) h = signals_earlier n ss (and_parts (is_signal n s) (are_signals n ss) e).1 j (omega arith)

@@ -6,7 +6,7 @@ use Rattle.clauses.specs.Clauses.{Member, member, RisingAbove, Rising}
 use Rattle.clauses.specs.Joining.{clashes, merged}
 use Rattle.clauses.specs.JoiningLaw.{ClashOn, Pivot}
 use Rattle.clauses.proofs.Flips.{signal-flip, literal_value-flip}
-use Rattle.clauses.proofs.Members.{member-stands, stands-member}
+use Rattle.clauses.proofs.Members.{member_stands, stands_member}
 use Rattle.clauses.proofs.JoiningLaw.{joins}
 
 -- the values v with b at the signal s
@@ -36,10 +36,10 @@ resolves_append Step a b c [] ys p q = subst (λ s. Resolves Step s ys c) (sym p
 resolves_append Step a b c (x ∷ xs) ys (m, h, p) q = (m, h, resolves_append Step m b c xs ys p q)
 
 -- signals that rise above s and are at most t are at most t - s
-rising-length : (s t : ℕ) (xs : List ℕ) → RisingAbove s xs → ((x : ℕ) → Member x xs → signal x ≤ t) → s ≤ t → s + length xs ≤ t
-rising-length s t [] u b h = omega arith
-rising-length s t (x ∷ xs) u b h =
-    let ih : signal x + length xs ≤ t = rising-length (signal x) t xs u.1 (λ y m. b y (inr m)) (b x (inl refl)) in
+rising_length : (s t : ℕ) (xs : List ℕ) → RisingAbove s xs → ((x : ℕ) → Member x xs → signal x ≤ t) → s ≤ t → s + length xs ≤ t
+rising_length s t [] u b h = omega arith
+rising_length s t (x ∷ xs) u b h =
+    let ih : signal x + length xs ≤ t = rising_length (signal x) t xs u.1 (λ y m. b y (inr m)) (b x (inl refl)) in
     omega (arith, u.0)
 
 -- the literal of signal k + 1 that b makes false
@@ -113,16 +113,16 @@ module _ (S : Type 0) (Stands : S → ℕ → List ℕ → Type 0) (Step : S →
   join k r v kn s room (i, xs, si, ux, dx) (j, ys, sj, uy, dy) = start (member (side k true) xs) refl (member (side k false) ys) refl
     where
       start : (b : Bool) → member (side k true) xs ≡ b → (b' : Bool) → member (side k false) ys ≡ b' → Reached s v k 1 r
-      start false e b' e' = ([], s, refl, omega arith, (λ i xs h. h), less r s room, (i, xs, si, ux, lower_all v k true xs dx (λ m. subst T e (stands-member (side k true) xs m))))
-      start true e false e' = ([], s, refl, omega arith, (λ i xs h. h), less r s room, (j, ys, sj, uy, lower_all v k false ys dy (λ m. subst T e' (stands-member (side k false) ys m))))
+      start false e b' e' = ([], s, refl, omega arith, (λ i xs h. h), less r s room, (i, xs, si, ux, lower_all v k true xs dx (λ m. subst T e (stands_member (side k true) xs m))))
+      start true e false e' = ([], s, refl, omega arith, (λ i xs h. h), less r s room, (j, ys, sj, uy, lower_all v k false ys dy (λ m. subst T e' (stands_member (side k false) ys m))))
       start true e true e' =
           let clash : ClashOn (suc k) xs ys =
-          (side k true, side_signal k true, member-stands (side k true) xs (subst T (sym e) tt), subst (λ y. Member y ys) (sym (side_flip k)) (member-stands (side k false) ys (subst T (sym e') tt))) in
+          (side k true, side_signal k true, member_stands (side k true) xs (subst T (sym e) tt), subst (λ y. Member y ys) (sym (side_flip k)) (member_stands (side k false) ys (subst T (sym e') tt))) in
           let pivot : Pivot (suc k) xs ys = (clash, only_clash v k xs ys dx dy) in
           let law = joins xs ys ux uy in
           let res = law.resolvent (suc k) pivot in
           let down : Falsified v k (merged xs ys) = λ x m. fall x ((res.literals x).0 m) in
-          let short : 0 + length (merged xs ys) ≤ k = rising-length 0 k (merged xs ys) res.rising (λ x m. (down x m).0) (omega arith) in
+          let short : 0 + length (merged xs ys) ≤ k = rising_length 0 k (merged xs ys) res.rising (λ x m. (down x m).0) (omega arith) in
           let (t, q, st, keep, stands, left) = grant r s i j (suc k) xs ys si sj ((law.one (suc k)).1 pivot) (omega arith) room in
           ((i, j) ∷ [], t, (t, st, refl), omega arith, keep, left, (q, merged xs ys, stands, res.rising, down))
         where
@@ -155,7 +155,7 @@ module _ (S : Type 0) (Stands : S → ℕ → List ℕ → Type 0) (Step : S →
   pub refutation : (r : ℕ) (s : S) → Room (full n + r) s → Refuted Stands n s → (cs : List (ℕ × ℕ)) × (t : S) × (i : ℕ) × Resolves Step s cs t × (length cs ≤ full n) × Stands t i [] × Room r t
   refutation r s room h =
       let (cs, t, run, m, keep, left, (i, xs, st, u, d)) = tree n 0 (omega arith) r (λ x. true) s room h in
-      let none : 0 + length xs ≤ 0 = rising-length 0 0 xs u (λ x m. (d x m).0) (omega arith) in
+      let none : 0 + length xs ≤ 0 = rising_length 0 0 xs u (λ x m. (d x m).0) (omega arith) in
       (cs, t, i, run, m, subst (Stands t i) (nil xs (omega arith)) st, left)
     where
       nil : (xs : List ℕ) → length xs ≤ 0 → xs ≡ []

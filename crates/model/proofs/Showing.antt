@@ -12,23 +12,23 @@ use Rattle.model.specs.Law.{Shown}
 use Rattle.model.proofs.Granting.{show_granted, resolve_granted}
 
 module _ (K : Kind) where
-  changed-plan : (d : Docket) (c : Call) (x : ℕ) → answer K d c ≡ Ok x → (changed K d c).plan ≡ d.plan
-  changed-plan d (Define z code operands) x e = refl
-  changed-plan d (Resolve a b) x e = let (c, r, same) = resolve_granted d a b x e in ap (λ (f : Docket). f.plan) same
-  changed-plan d (Strike k) x e = refl
-  changed-plan d (Settle k) x e = refl
-  changed-plan d (Show bytes) x e = refl
+  changed_plan : (d : Docket) (c : Call) (x : ℕ) → answer K d c ≡ Ok x → (changed K d c).plan ≡ d.plan
+  changed_plan d (Define z code operands) x e = refl
+  changed_plan d (Resolve a b) x e = let (c, r, same) = resolve_granted d a b x e in ap (λ (f : Docket). f.plan) same
+  changed_plan d (Strike k) x e = refl
+  changed_plan d (Settle k) x e = refl
+  changed_plan d (Show bytes) x e = refl
 
-  step-plan : (d : Docket) (c : Call) → (step K d c).plan ≡ d.plan
-  step-plan d c = go (answer K d c) refl
+  step_plan : (d : Docket) (c : Call) → (step K d c).plan ≡ d.plan
+  step_plan d c = go (answer K d c) refl
     where
       go : (r : Result ℕ Refusal) → answer K d c ≡ r → (granted r (changed K d c) d).plan ≡ d.plan
-      go (Ok x) e = changed-plan d c x e
+      go (Ok x) e = changed_plan d c x e
       go (Err f) e = refl
 
-  pub run-plan : (d : Docket) (cs : List Call) → (run K d cs).plan ≡ d.plan
-  run-plan d [] = refl
-  run-plan d (c ∷ cs) = run-plan (step K d c) cs ∙ step-plan d c
+  pub run_plan : (d : Docket) (cs : List Call) → (run K d cs).plan ≡ d.plan
+  run_plan d [] = refl
+  run_plan d (c ∷ cs) = run_plan (step K d c) cs ∙ step_plan d c
 
   -- one call that leads to 'runs' is a show, unless the docket stood there
   shown_by : (d : Docket) (k x : ℕ) (c : Call) (after : List Call) → answer K d c ≡ Ok x → (changed K d c).standing ≡ Runs k → (d.standing ≡ Runs k) ⊎ Shown K d (c ∷ after) k
@@ -49,8 +49,8 @@ module _ (K : Kind) where
     after = s.after;
     made = ap (λ xs. c ∷ xs) s.made;
     granted_as = s.granted_as;
-    true_there = subst (λ (p : Plan). T (true_under K p (setting_of p.switches s.bytes))) (step-plan d c) s.true_there;
-    as_many_on = subst (λ (p : Plan). count_on (setting_of p.switches s.bytes) ≡ k) (step-plan d c) s.as_many_on;
+    true_there = subst (λ (p : Plan). T (true_under K p (setting_of p.switches s.bytes))) (step_plan d c) s.true_there;
+    as_many_on = subst (λ (p : Plan). count_on (setting_of p.switches s.bytes) ≡ k) (step_plan d c) s.as_many_on;
   }
 
   pub runs_shown : (d : Docket) (cs : List Call) (k : ℕ) → (run K d cs).standing ≡ Runs k → (d.standing ≡ Runs k) ⊎ Shown K d cs k

@@ -13,7 +13,7 @@ use Rattle.gates.specs.Nodes.{Node, value_at, node_value, Fits}
 use Rattle.gates.specs.GateClauses.{clauses_of, ClausesLaw, GateLaw}
 use Rattle.books.specs.Book.{Book, given, clause_at, written, struck}
 use Rattle.books.specs.Promise.{granted}
-use Rattle.books.proofs.BookLaws.{numbered, struck-gone, struck-others}
+use Rattle.books.proofs.BookLaws.{numbered, struck_gone, struck_others}
 use Rattle.model.specs.declared.standing.Standing.TheVariants.{CannotRun, Runs}
 use Rattle.model.specs.Plans.{Plan, node, WellMade, AllFit, signals, complete, plan_values, true_under, plan_clauses}
 use Rattle.model.specs.Dockets.{Docket, in_use, all_written, opened, open_reasons, open_answer}
@@ -22,7 +22,7 @@ use Rattle.model.specs.PlanLaw.{SettingOf, CannotBeRun}
 use Rattle.model.specs.Law.{docket_values}
 use Rattle.model.proofs.PlanCalls.{all_fit_push}
 use Rattle.model.proofs.Values.{value_front, value_next, fitting_value, values_push, values_length}
-use Rattle.model.proofs.Exactness.{plan-exact}
+use Rattle.model.proofs.Exactness.{plan_exact}
 use Rattle.model.proofs.Written.{In, all_in, hold_in, written_from, all_written_from}
 use Rattle.model.proofs.Shapes.{Shaped, shaped_more, plan_shaped}
 use Rattle.model.proofs.Granting.{Resolving, define_granted, resolve_granted, strike_granted, settle_granted}
@@ -114,7 +114,7 @@ module _ (K : Kind) (law : GateLaw K) where
   }
     where
       sx : Shaped (in_use d) r.left
-      sx = right.shaped a r.left r.left-stands
+      sx = right.shaped a r.left r.left_stands
 
       sy : Shaped (in_use d) r.right
       sy = right.shaped b r.right r.right_stands
@@ -133,7 +133,7 @@ module _ (K : Kind) (law : GateLaw K) where
       hold : (k : ℕ) (x : List ℕ) → (clause_at d.book k ≡ Some x) ⊎ (x ≡ c) → Entailed K d x
       hold k x (inl e) = right.entailed k x e
       hold k x (inr e) = subst (Entailed K d) (r.merges ∙ sym e)
-          (λ setting l t. both.sound (value_at (docket_values K d setting)) (right.entailed a r.left r.left-stands setting l t) (right.entailed b r.right r.right_stands setting l t))
+          (λ setting l t. both.sound (value_at (docket_values K d setting)) (right.entailed a r.left r.left_stands setting l t) (right.entailed b r.right r.right_stands setting l t))
 
   -- a strike
   strike_right : (d : Docket) → Right K d → (k : ℕ) (c : List ℕ) → clause_at d.book k ≡ Some c → Right K (with_book d (struck d.book k))
@@ -146,8 +146,8 @@ module _ (K : Kind) (law : GateLaw K) where
   }
     where
       stood : (j : ℕ) (x : List ℕ) → clause_at (struck d.book k) j ≡ Some x → (j ≡ k) ⊎ (j ≡ k → ⊥) → clause_at d.book j ≡ Some x
-      stood j x f (inl q) = let n : None ≡ Some x = sym (struck-gone d.book k) ∙ ap (clause_at (struck d.book k)) (sym q) ∙ f in let z : ◌≡◌ {A = ℕ} 0 1 = cc in absurd (omega arith)
-      stood j x f (inr q) = sym (struck-others d.book k (numbered d.book k c e).0 j q) ∙ f
+      stood j x f (inl q) = let n : None ≡ Some x = sym (struck_gone d.book k) ∙ ap (clause_at (struck d.book k)) (sym q) ∙ f in let z : ◌≡◌ {A = ℕ} 0 1 = cc in absurd (omega arith)
+      stood j x f (inr q) = sym (struck_others d.book k (numbered d.book k c e).0 j q) ∙ f
 
   -- a settle by the empty clause
   settle_right : (d : Docket) → Right K d → (k : ℕ) → clause_at d.book k ≡ Some [] → Right K (with_standing d CannotRun)
@@ -217,6 +217,6 @@ module _ (K : Kind) (law : GateLaw K) where
 
       all_true : (setting : List Bool) → SettingOf p.switches setting → T (true_under K p setting) → T (all_hold (value_at (plan_values K p setting)) (plan_clauses K p))
       all_true setting l t =
-          let exact = plan-exact K law p made (subst T (sym full) tt) setting l in
+          let exact = plan_exact K law p made (subst T (sym full) tt) setting l in
           let (chosen, m, h) = exact.some_choice.0 t in
           subst (λ (us : List Bool). T (all_hold (value_at us) (plan_clauses K p))) (exact.no_other chosen m h) h

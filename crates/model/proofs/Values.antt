@@ -3,7 +3,7 @@ use Rattle.std.proofs.Common.{◌≡◌, ℕ, suc, ◌+◌, ◌≤◌, Bool, fal
 use Rattle.std.proofs.lemmas.List.{append_assoc, append-nil, length-append, get_or_append_left, get_or_at}
 use Rattle.gates.specs.Kinds.{Kind}
 use Rattle.gates.specs.Nodes.{Node, value_at, operand_row, node_value, values_of, Earlier, Fits}
-use Rattle.gates.proofs.Known.{known-fits}
+use Rattle.gates.proofs.Known.{known_fits}
 
 -- a signal that has a value keeps it when more follow
 pub value_front : (vs ws : List Bool) (s : ℕ) → s ≤ length vs → value_at (vs ++ ws) s ≡ value_at vs s
@@ -21,7 +21,7 @@ operands_front vs ws (s ∷ ss) e =
 -- the value of a node that fits is its operator's, on the values before it or on longer ones
 pub fitting_value : (K : Kind) (vs ws : List Bool) (g : Node) → Fits K (length vs) g → node_value K g vs ≡ K.truth g.code (map (value_at (vs ++ ws)) g.operands)
 fitting_value K vs ws g f =
-    ap (λ b. b && K.truth g.code (operand_row g vs)) (known-fits K g (length vs) f)
+    ap (λ b. b && K.truth g.code (operand_row g vs)) (known_fits K g (length vs) f)
     ∙ ap (K.truth g.code) (sym (operands_front vs ws g.operands f.earlier))
 
 -- the nodes' values stand behind those given

@@ -4,7 +4,7 @@ use Rattle.std.specs.List.{AllByRecursion}
 use Rattle.std.proofs.lemmas.Bool.{cases_eq}
 use Rattle.clauses.specs.Clauses.{holds, all_hold}
 use Rattle.books.specs.Book.{Book, given, clause_at, written}
-use Rattle.books.proofs.BookLaws.{numbered, written_stands, written-others}
+use Rattle.books.proofs.BookLaws.{numbered, written_stands, written_others}
 use Rattle.gates.specs.Computed.{and_left, and_right}
 use Rattle.model.specs.Dockets.{all_written}
 
@@ -46,7 +46,7 @@ fails_in v (c ∷ cs) n = go (holds v c) refl n (fails_in v cs)
 
 -- what stood before stays
 pub written_keeps : (b : Book) (d : List ℕ) (k : ℕ) (c : List ℕ) → clause_at b k ≡ Some c → clause_at (written b d) k ≡ Some c
-written_keeps b d k c e = let (low, high) = numbered b k c e in written-others b d k (λ q. omega arith) ∙ e
+written_keeps b d k c e = let (low, high) = numbered b k c e in written_others b d k (λ q. omega arith) ∙ e
 
 pub all_written_keeps : (b : Book) (cs : List (List ℕ)) (k : ℕ) (c : List ℕ) → clause_at b k ≡ Some c → clause_at (all_written b cs) k ≡ Some c
 all_written_keeps b [] k c e = e
@@ -64,7 +64,7 @@ written_from b d k c e = go (cases_eq k (given b + 1))
   where
     go : (k ≡ given b + 1) ⊎ (k ≡ given b + 1 → ⊥) → (clause_at b k ≡ Some c) ⊎ (c ≡ d)
     go (inl q) = inr (let s : Some c ≡ Some d = sym e ∙ ap (clause_at (written b d)) q ∙ written_stands b d in cc)
-    go (inr q) = inl (sym (written-others b d k q) ∙ e)
+    go (inr q) = inl (sym (written_others b d k q) ∙ e)
 
 pub all_written_from : (b : Book) (cs : List (List ℕ)) (k : ℕ) (c : List ℕ) → clause_at (all_written b cs) k ≡ Some c → (clause_at b k ≡ Some c) ⊎ In c cs
 all_written_from b [] k c e = inl e

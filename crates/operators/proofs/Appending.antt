@@ -26,25 +26,25 @@ joined_push separator (s ∷ ts) t =
 
 module _ {X : Type 0} (f : X → List ℕ) (separator : List ℕ) (xs : List X) where
   -- the first i parts, with separators
-  abbrev pub joined-first : ℕ → List ℕ
-  joined-first i = joined_by separator (map f (take i xs))
+  abbrev pub joined_first : ℕ → List ℕ
+  joined_first i = joined_by separator (map f (take i xs))
 
-  joined_more : (i : ℕ) (d : X) → i < length xs → joined-first (i + 1) ≡ (joined-first i ++ cond (ltb 0 i) separator []) ++ f (get_or xs i d)
+  joined_more : (i : ℕ) (d : X) → i < length xs → joined_first (i + 1) ≡ (joined_first i ++ cond (ltb 0 i) separator []) ++ f (get_or xs i d)
   joined_more i d h =
       ap (joined_by separator) (map_more f xs i d h)
       ∙ joined_push separator (map f (take i xs)) (f (get_or xs i d))
-      ∙ ap (λ n. (joined-first i ++ cond (ltb 0 n) separator []) ++ f (get_or xs i d)) (length-map (take i xs) f ∙ length-take-le i xs (omega arith))
+      ∙ ap (λ n. (joined_first i ++ cond (ltb 0 n) separator []) ++ f (get_or xs i d)) (length-map (take i xs) f ∙ length-take-le i xs (omega arith))
 
   -- one turn: a separator if need be, then the part
-  pub joined_step : (i : ℕ) (d : X) (before old mid new : List ℕ) → i < length xs → old ≡ before ++ joined-first i → mid ≡ old ++ cond (ltb 0 i) separator [] → new ≡ mid ++ f (get_or xs i d) → new ≡ before ++ joined-first (i + 1)
+  pub joined_step : (i : ℕ) (d : X) (before old mid new : List ℕ) → i < length xs → old ≡ before ++ joined_first i → mid ≡ old ++ cond (ltb 0 i) separator [] → new ≡ mid ++ f (get_or xs i d) → new ≡ before ++ joined_first (i + 1)
   joined_step i d before old mid new h e m n =
       n
       ∙ ap (λ t. t ++ f (get_or xs i d)) (m ∙ ap (λ t. t ++ cond (ltb 0 i) separator []) e)
-      ∙ ap (λ t. t ++ f (get_or xs i d)) (append_assoc before (joined-first i) (cond (ltb 0 i) separator []))
-      ∙ append_assoc before (joined-first i ++ cond (ltb 0 i) separator []) (f (get_or xs i d))
+      ∙ ap (λ t. t ++ f (get_or xs i d)) (append_assoc before (joined_first i) (cond (ltb 0 i) separator []))
+      ∙ append_assoc before (joined_first i ++ cond (ltb 0 i) separator []) (f (get_or xs i d))
       ∙ ap (λ t. before ++ t) (sym (joined_more i d h))
 
-  pub joined_all : (i : ℕ) (before new : List ℕ) → length xs ≤ i → new ≡ before ++ joined-first i → new ≡ before ++ joined_by separator (map f xs)
+  pub joined_all : (i : ℕ) (before new : List ℕ) → length xs ≤ i → new ≡ before ++ joined_first i → new ≡ before ++ joined_by separator (map f xs)
   joined_all i before new h e = e ∙ ap (λ ys. before ++ joined_by separator (map f ys)) (take_all i xs h)
 
 encode_digit : (b : Bool) → encode (digit b) ≡ digit b ∷ []

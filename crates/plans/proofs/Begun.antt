@@ -38,8 +38,8 @@ module _ {last b : Book} (K : Kind) (nodes : List NodeRecord) (n i : ℕ) (x : N
   pub room_for_node : T (has_room b (clauses_of K (n + 1) (node_of x)))
   room_for_node = room_some b (clauses_of K (n + 1) (node_of x)) (nodes_left K nodes (n + 1) (i + 1)) (subst (λ cs. T (has_room b cs)) (node_next K nodes n i x h e) t.room)
 
-  pub begun-node : (new : Book) → new ≡ all_written b (clauses_of K (n + 1) (node_of x)) → Begun last (nodes_left K nodes (n + 1) (i + 1)) new
-  begun-node new f =
+  pub begun_node : (new : Book) → new ≡ all_written b (clauses_of K (n + 1) (node_of x)) → Begun last (nodes_left K nodes (n + 1) (i + 1)) new
+  begun_node new f =
       let cs = clauses_of K (n + 1) (node_of x) in
       let others = nodes_left K nodes (n + 1) (i + 1) in
       let next = node_next K nodes n i x h e in

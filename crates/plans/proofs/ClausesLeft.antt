@@ -29,7 +29,7 @@ module _ (K : Kind) (z : ℕ) (node : Node) where
     pub next_in_front : (buffer out : List ℕ) (n : ℕ) → Some n ≡ kept_length (instance_of K z node i) → out ≡ written_over (instance_of K z node i) buffer → (n ≤ length out) × (clauses_left i ≡ take (n - 0) out ∷ clauses_left (i + 1))
     next_in_front buffer out n e f =
         let c = instance_of K z node i in
-        let (n-is, next) = next_kept n e in
+        let (n_is, next) = next_kept n e in
         let front = ap (take (n - 0)) f ∙ take_at c _ (n - 0) (omega arith) in
         let long = ap length f ∙ length-append c (drop (length c) buffer) in
         (omega arith, next ∙ ap (λ d. d ∷ clauses_left (i + 1)) (sym front))

@@ -31,7 +31,7 @@ module _ {all left : List (List ℕ)} {d : Demand} (t : Counted all left d) wher
   counted_one c rest e n f new is =
       let count = ap length e in
       let literals = ap literal_count e in
-      let numbers-are = ap (λ (x : Demand). x.numbers) is in
+      let numbers_are = ap (λ (x : Demand). x.numbers) is in
       let cells_are = ap (λ (x : Demand). x.cells) is in
       record { numbers = omega arith; cells = omega arith }
 
@@ -43,6 +43,6 @@ counted_node K nodes n i x h e t more is =
     let next = node_next K nodes n i x h e in
     let count = ap length next in
     let literals = ap literal_count next in
-    let numbers-are = ap (λ (y : Demand). y.numbers) is in
+    let numbers_are = ap (λ (y : Demand). y.numbers) is in
     let cells_are = ap (λ (y : Demand). y.cells) is in
     record { numbers = omega (arith, length-append cs rest); cells = omega (arith, literal_count-append cs rest) }

@@ -5,8 +5,8 @@ use Rattle.gates.specs.declared.kinds.SlotLiteral.{SlotLiteral}
 use Rattle.gates.specs.Kinds.{Kind, Sized}
 use Rattle.gates.specs.Nodes.{Node, known}
 use Rattle.gates.specs.GateClauses.{instance, both_ways, clauses_of}
-use Rattle.gates.proofs.InstanceShape.{instance-length}
-use Rattle.gates.proofs.Known.{known-code}
+use Rattle.gates.proofs.InstanceShape.{instance_length}
+use Rattle.gates.proofs.Known.{known_code}
 use Rattle.gates.proofs.PatternSizes.{pattern_short}
 use Rattle.model.specs.Dockets.{literal_count}
 use Rattle.model.specs.Plans.{nodes_clauses}
@@ -16,10 +16,10 @@ literal_count-append [] ds = omega arith
 literal_count-append (c ∷ cs) ds = let ih = literal_count-append cs ds in omega arith
 
 -- short lists have few literals together
-few-literals : {A : Type 0} (cs : List (List A)) → ((i : ℕ) → length (get_or cs i []) ≤ 18) → literal_count cs ≤ 18 * length cs
-few-literals [] h = omega arith
-few-literals (c ∷ cs) h =
-    let ih : literal_count cs ≤ 18 * length cs = few-literals cs (λ i. h (suc i)) in
+few_literals : {A : Type 0} (cs : List (List A)) → ((i : ℕ) → length (get_or cs i []) ≤ 18) → literal_count cs ≤ 18 * length cs
+few_literals [] h = omega arith
+few_literals (c ∷ cs) h =
+    let ih : literal_count cs ≤ 18 * length cs = few_literals cs (λ i. h (suc i)) in
     let here : length c ≤ 18 = h zero in
     omega arith
 
@@ -32,40 +32,40 @@ module _ (z : ℕ) (operands : List ℕ) where
   kept_count [] = omega arith
   kept_count (p ∷ ps) = let ih = kept_count ps in grind (arith, ih)
 
-  kept-literals : (ps : List (List SlotLiteral)) → literal_count (kept ps) ≤ literal_count ps
-  kept-literals [] = omega arith
-  kept-literals (p ∷ ps) = let ih = kept-literals ps in let short = instance-length z operands p in grind (arith, ih, short)
+  kept_literals : (ps : List (List SlotLiteral)) → literal_count (kept ps) ≤ literal_count ps
+  kept_literals [] = omega arith
+  kept_literals (p ∷ ps) = let ih = kept_literals ps in let short = instance_length z operands p in grind (arith, ih, short)
 
 -- the clauses of a node need no more than all its operator's patterns
 pub within_patterns : (K : Kind) (z : ℕ) (node : Node) → (length (clauses_of K z node) ≤ length (K.patterns node.code)) × (literal_count (clauses_of K z node) ≤ literal_count (K.patterns node.code))
 within_patterns K z node = go (known K node)
   where
     go : (b : Bool) → (length (kept z node.operands (cond b (K.patterns node.code) [])) ≤ length (K.patterns node.code)) × (literal_count (kept z node.operands (cond b (K.patterns node.code) [])) ≤ literal_count (K.patterns node.code))
-    go true = (kept_count z node.operands (K.patterns node.code), kept-literals z node.operands (K.patterns node.code))
+    go true = (kept_count z node.operands (K.patterns node.code), kept_literals z node.operands (K.patterns node.code))
     go false = (omega arith, omega arith)
 
 -- a kind that keeps to its sizes
 module _ (K : Kind) (sized : Sized K) where
-  pub patterns-few : (code : ℕ) → code < K.codes → (length (K.patterns code) ≤ 16) × (literal_count (K.patterns code) ≤ 288)
-  patterns-few code h =
+  pub patterns_few : (code : ℕ) → code < K.codes → (length (K.patterns code) ≤ 16) × (literal_count (K.patterns code) ≤ 288)
+  patterns_few code h =
       let count : length (K.patterns code) ≤ 16 = sized.few_patterns code h in
-      let literals = few-literals (K.patterns code) (λ i. pattern_short K sized code i h) in
+      let literals = few_literals (K.patterns code) (λ i. pattern_short K sized code i h) in
       (count, omega arith)
 
-  pub node-few : (z : ℕ) (node : Node) → (length (clauses_of K z node) ≤ 16) × (literal_count (clauses_of K z node) ≤ 288)
-  node-few z node = go (known K node) refl
+  pub node_few : (z : ℕ) (node : Node) → (length (clauses_of K z node) ≤ 16) × (literal_count (clauses_of K z node) ≤ 288)
+  node_few z node = go (known K node) refl
     where
       go : (b : Bool) → known K node ≡ b → (length (kept z node.operands (cond b (K.patterns node.code) [])) ≤ 16) × (literal_count (kept z node.operands (cond b (K.patterns node.code) [])) ≤ 288)
       go true e =
-          let few = patterns-few node.code (known-code K node e) in
+          let few = patterns_few node.code (known_code K node e) in
           let ps = K.patterns node.code in
-          (omega (arith, kept_count z node.operands ps), omega (arith, kept-literals z node.operands ps))
+          (omega (arith, kept_count z node.operands ps), omega (arith, kept_literals z node.operands ps))
       go false e = (omega arith, omega arith)
 
   pub nodes_few : (n : ℕ) (gs : List Node) → (length (nodes_clauses K n gs) ≤ 16 * length gs) × (literal_count (nodes_clauses K n gs) ≤ 288 * length gs)
   nodes_few n [] = (omega arith, omega arith)
   nodes_few n (g ∷ gs) =
-      let (count, literals) = node-few (n + 1) g in
+      let (count, literals) = node_few (n + 1) g in
       let (more, others) = nodes_few (n + 1) gs in
       let cs = clauses_of K (n + 1) g in
       let ds = nodes_clauses K (n + 1) gs in

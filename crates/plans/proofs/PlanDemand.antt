@@ -16,39 +16,39 @@ use Rattle.plans.proofs.Counts.{literal_count-append, nodes_few}
 use Rattle.plans.proofs.PlanParts.{gate_count}
 
 -- the root's clause has one literal
-root-one : (p : model.Plan) → true ≡ complete p → (length (root_clauses p.root) ≡ 1) × (literal_count (root_clauses p.root) ≡ 1)
-root-one p e = go p.root e
+root_one : (p : model.Plan) → true ≡ complete p → (length (root_clauses p.root) ≡ 1) × (literal_count (root_clauses p.root) ≡ 1)
+root_one p e = go p.root e
   where
     go : (o : Option ℕ) → true ≡ elim o [ Some r ↦ true | None ↦ false ] → (length (root_clauses o) ≡ 1) × (literal_count (root_clauses o) ≡ 1)
     go (Some r) e = (refl, refl)
     go None e = let never : ◌≡◌ {A = ℕ} 0 1 = cc in absurd (omega arith)
 
 -- n and gs are what was read of the plan
-module _ {G : Type 0} {g : Ghosts G} (p : Plan G g) (n : ℕ) (gs : List NodeRecord) (n-is : n ≡ p.switches) (gs-are : map node_of gs ≡ (plan_of p).gates) where
-  pub few-signals : n + length gs ≤ 512
-  few-signals =
+module _ {G : Type 0} {g : Ghosts G} (p : Plan G g) (n : ℕ) (gs : List NodeRecord) (n_is : n ≡ p.switches) (gs_are : map node_of gs ≡ (plan_of p).gates) where
+  pub few_signals : n + length gs ≤ 512
+  few_signals =
       let count = length-map gs node_of in
-      let same = ap length gs-are in
+      let same = ap length gs_are in
       omega (arith, gate_count p, p.sizes)
 
-  module _ (K : Kind) (d : Demand) (d-is : d ≡ demand_of (nodes_clauses K n (map node_of gs))) where
+  module _ (K : Kind) (d : Demand) (d_is : d ≡ demand_of (nodes_clauses K n (map node_of gs))) where
     pub few_demanded : Sized K → (d.numbers ≤ 8192) × (d.cells ≤ 147456)
     few_demanded sized =
         let few = nodes_few K sized n (map node_of gs) in
         let count = length-map gs node_of in
-        let numbers-are = ap (λ (x : Demand). x.numbers) d-is in
-        let cells_are = ap (λ (x : Demand). x.cells) d-is in
-        let signals = few-signals in
+        let numbers_are = ap (λ (x : Demand). x.numbers) d_is in
+        let cells_are = ap (λ (x : Demand). x.cells) d_is in
+        let signals = few_signals in
         (omega arith, omega arith)
 
     gates_demand : d ≡ demand_of (nodes_clauses K p.switches (plan_of p).gates)
-    gates_demand = d-is ∙ ap₂ (λ m hs. demand_of (nodes_clauses K m hs)) n-is gs-are
+    gates_demand = d_is ∙ ap₂ (λ m hs. demand_of (nodes_clauses K m hs)) n_is gs_are
 
     pub demand_with_root : true ≡ complete (plan_of p) → record { numbers = d.numbers + 1; cells = d.cells + 1 } ≡ demand_of (plan_clauses K (plan_of p))
     demand_with_root e =
         let cs = nodes_clauses K p.switches (plan_of p).gates in
         let ds = root_clauses p.root in
-        let one = root-one (plan_of p) e in
-        let numbers-are = ap (λ (x : Demand). x.numbers) gates_demand in
+        let one = root_one (plan_of p) e in
+        let numbers_are = ap (λ (x : Demand). x.numbers) gates_demand in
         let cells_are = ap (λ (x : Demand). x.cells) gates_demand in
         ap₂ (λ (k m : ℕ). record { numbers = k; cells = m }) (omega (arith, length-append cs ds)) (omega (arith, literal_count-append cs ds))

@@ -13,32 +13,32 @@ use Rattle.plans.specs.PlanStates.{plan_of}
 use Rattle.plans.proofs.Room.{room_one, room_some, room_others, all_written-append}
 
 -- n and gs are what was read of the plan, for which the book b has room
-module _ {G : Type 0} {g : Ghosts G} (K : Kind) (p : Plan G g) (n : ℕ) (gs : List NodeRecord) (n-is : n ≡ p.switches) (gs-are : map node_of gs ≡ (plan_of p).gates) (b : Book) (t : T (has_room b (plan_clauses K (plan_of p)))) where
+module _ {G : Type 0} {g : Ghosts G} (K : Kind) (p : Plan G g) (n : ℕ) (gs : List NodeRecord) (n_is : n ≡ p.switches) (gs_are : map node_of gs ≡ (plan_of p).gates) (b : Book) (t : T (has_room b (plan_clauses K (plan_of p)))) where
   abbrev gates : List (List ℕ)
   gates = nodes_clauses K p.switches (plan_of p).gates
 
   gates_are : nodes_clauses K n (map node_of gs) ≡ gates
-  gates_are = ap₂ (nodes_clauses K) n-is gs-are
+  gates_are = ap₂ (nodes_clauses K) n_is gs_are
 
   pub room_for_gates : T (has_room b (nodes_clauses K n (map node_of gs)))
   room_for_gates = subst (λ cs. T (has_room b cs)) (sym gates_are) (room_some b gates (root_clauses p.root) t)
 
   module _ (after : Book) (after_is : after ≡ all_written b (nodes_clauses K n (map node_of gs))) where
-    after-gates : after ≡ all_written b gates
-    after-gates = after_is ∙ ap (all_written b) gates_are
+    after_gates : after ≡ all_written b gates
+    after_gates = after_is ∙ ap (all_written b) gates_are
 
     -- the plan has the root r
     module _ (r : ℕ) (root_is : Some r ≡ p.root) where
       room_left : T (has_room after (root_clauses (Some r)))
-      room_left = subst (λ o. T (has_room after (root_clauses o))) (sym root_is) (rw after-gates (room_others b gates (root_clauses p.root) t))
+      room_left = subst (λ o. T (has_room after (root_clauses o))) (sym root_is) (rw after_gates (room_others b gates (root_clauses p.root) t))
 
       pub room_for_root : (1 ≤ free_numbers after) × (1 ≤ free_cells after)
       room_for_root = let (number, cells, more) = room_one after (literal_of r false ∷ []) [] room_left in (number, cells)
 
-      pub with_root-written : (l : ℕ) → l ≡ literal_of r false → (new : Book) → new ≡ written after (l ∷ []) → new ≡ all_written b (plan_clauses K (plan_of p))
-      with_root-written l l-is new is =
+      pub with_root_written : (l : ℕ) → l ≡ literal_of r false → (new : Book) → new ≡ written after (l ∷ []) → new ≡ all_written b (plan_clauses K (plan_of p))
+      with_root_written l l_is new is =
           is
-          ∙ ap (λ (k : ℕ). written after (k ∷ [])) l-is
+          ∙ ap (λ (k : ℕ). written after (k ∷ [])) l_is
           ∙ ap (λ o. all_written after (root_clauses o)) root_is
-          ∙ ap (λ c. all_written c (root_clauses p.root)) after-gates
+          ∙ ap (λ c. all_written c (root_clauses p.root)) after_gates
           ∙ sym (all_written-append b gates (root_clauses p.root))

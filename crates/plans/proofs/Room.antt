@@ -2,7 +2,7 @@
 use Rattle.std.proofs.Common.{◌≡◌, ℕ, ◌≤◌, T, leb, List, [], ◌∷◌, ◌++◌, length, refl, arith, leb→le}
 use Rattle.std.proofs.lemmas.List.{length-append}
 use Rattle.books.specs.Book.{Book, free_numbers, free_cells, written}
-use Rattle.books.proofs.BookLaws.{written-free_numbers, written-free_cells}
+use Rattle.books.proofs.BookLaws.{written_free_numbers, written_free_cells}
 use Rattle.gates.specs.Computed.{and_left, and_right}
 use Rattle.model.specs.Dockets.{literal_count, has_room, all_written}
 use Rattle.plans.proofs.Counts.{literal_count-append}
@@ -19,8 +19,8 @@ room_one b c cs t =
     let (numbers, cells) = room_parts b (c ∷ cs) t in
     let number : 1 ≤ free_numbers b = omega arith in
     let cell : length c ≤ free_cells b = omega arith in
-    let n = written-free_numbers b c number in
-    let m = written-free_cells b c cell in
+    let n = written_free_numbers b c number in
+    let m = written_free_cells b c cell in
     (number, cell, room_from (written b c) cs (omega arith) (omega arith))
 
 -- room for some, and for the others once those are written

@@ -25,8 +25,8 @@ pub docket_parts : {p q : Plan} {ms ns : List Node} {b e : Book} (s : Standing) 
 docket_parts s plans nodes books = cc
 
 -- a step that is taken finds the docket open, and leaves it as it was
-pub step-taken : (d e : Docket) (x : ℕ) → ◌≡◌ {A = Result ℕ Refusal} (Ok x) (event_answer d.standing Step) → e ≡ with_standing d Open → (e ≡ d) × (closed d.standing ≡ false)
-step-taken d e x taken after =
+pub step_taken : (d e : Docket) (x : ℕ) → ◌≡◌ {A = Result ℕ Refusal} (Ok x) (event_answer d.standing Step) → e ≡ with_standing d Open → (e ≡ d) × (closed d.standing ≡ false)
+step_taken d e x taken after =
     let is : d.standing ≡ Open = go d.standing taken in
     (after ∙ ap (with_standing d) (sym is), ap closed is)
   where
@@ -54,8 +54,8 @@ module _ (K : Kind) (d : Docket) (z code : ℕ) (operands : List ℕ) where
     pub checked_definition : made ≡ node code operands
     checked_definition = sym (none_hold (definition_reasons K d z code operands) (node code operands) made (sym h)).1
 
-    pub signals-left : in_use d < max_signals
-    signals-left =
+    pub signals_left : in_use d < max_signals
+    signals_left =
         let (coded, (counted, (there, (new, (left, more))))) = (none_hold (definition_reasons K d z code operands) (node code operands) made (sym h)).0 in
         leb-false max_signals (in_use d) left
 

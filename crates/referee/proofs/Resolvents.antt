@@ -30,10 +30,10 @@ joined_within xs ys out = go (only (clashes xs ys))
     go (Err e) = tt
 
 -- both clauses were read, and then joined; i and j are n and m as the code cuts
-pub resolved : (left right : Option (List ℕ)) (n m i j : ℕ) (was-left was-right lefts rights was out : List ℕ) (r : Result ℕ Refusal) → ◌≡◌ {A = Result ℕ Refusal} (Ok n) (length_answer left) → lefts ≡ read_buffer left was-left → ◌≡◌ {A = Result ℕ Refusal} (Ok m) (length_answer right) → rights ≡ read_buffer right was-right → i ≡ n → j ≡ m → r ≡ joined_length (take i lefts) (take j rights) → out ≡ joined_buffer (take i lefts) (take j rights) was → (taken r out ≡ resolvent_of left right) × Within r (length out)
-resolved left right n m i j was-left was-right lefts rights was out r ln lb rn rb ni mj answer buffer =
-    let l : left ≡ Some (take i lefts) = rw (ni, lb) (read_back left n was-left ln) in
-    let s : right ≡ Some (take j rights) = rw (mj, rb) (read_back right m was-right rn) in (
+pub resolved : (left right : Option (List ℕ)) (n m i j : ℕ) (was_left was_right lefts rights was out : List ℕ) (r : Result ℕ Refusal) → ◌≡◌ {A = Result ℕ Refusal} (Ok n) (length_answer left) → lefts ≡ read_buffer left was_left → ◌≡◌ {A = Result ℕ Refusal} (Ok m) (length_answer right) → rights ≡ read_buffer right was_right → i ≡ n → j ≡ m → r ≡ joined_length (take i lefts) (take j rights) → out ≡ joined_buffer (take i lefts) (take j rights) was → (taken r out ≡ resolvent_of left right) × Within r (length out)
+resolved left right n m i j was_left was_right lefts rights was out r ln lb rn rb ni mj answer buffer =
+    let l : left ≡ Some (take i lefts) = rw (ni, lb) (read_back left n was_left ln) in
+    let s : right ≡ Some (take j rights) = rw (mj, rb) (read_back right m was_right rn) in (
       rw (answer, buffer) (joined_back (take i lefts) (take j rights) was ∙ rw (l, s) refl),
       rw (answer, buffer) (joined_within (take i lefts) (take j rights) was),
     )

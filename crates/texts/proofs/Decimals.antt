@@ -17,7 +17,7 @@ own = numerals_by_value (AllDigits 10) tells_digits
 pub record Spelling (ds : List ℕ) (v : ℕ) : Type 0 where
   pub some : 0 < length ds
   pub short : length ds ≤ 5
-  pub plain-first : get_or ds 0 0 ≡ 48 → length ds ≡ 1
+  pub plain_first : get_or ds 0 0 ≡ 48 → length ds ≡ 1
   pub digits : AllDigits 10 ds
   pub reads : digits_value 10 ds ≡ v
 
@@ -34,7 +34,7 @@ spelling ds v small e =
     record {
       some = decimal_nonempty v (omega arith);
       short = length-decimal-le 5 v (omega arith) (omega arith) (omega arith);
-      plain-first = plain_decimal v small;
+      plain_first = plain_decimal v small;
       digits = digits_decimal own v (omega arith);
       reads = digits_value-decimal own v (omega arith);
     }
@@ -60,11 +60,11 @@ pub number_of : (v : ℕ) → v ≤ max_number → number_answer (decimal v) ≡
 number_of v small =
     let s = spelling (decimal v) v small refl in
     let a : all_ascii_digits (decimal v) ≡ true = tested.from (decimal v) s.digits in
-    rw (a, plain_from (decimal v) s.some s.plain-first, s.reads, le-leb v max_number small)
+    rw (a, plain_from (decimal v) s.some s.plain_first, s.reads, le-leb v max_number small)
 
 -- what is taken for a number is its spelling
-pub number-spelt : (ds : List ℕ) (v : ℕ) → number_answer ds ≡ Ok v → (ds ≡ decimal v) × (v ≤ max_number)
-number-spelt ds v e =
+pub number_spelt : (ds : List ℕ) (v : ℕ) → number_answer ds ≡ Ok v → (ds ≡ decimal v) × (v ≤ max_number)
+number_spelt ds v e =
     elim (cases_Bool (is_number ds)) [
       | inl t ↦
           let f : digits_value 10 ds ≡ v = grind arith in
@@ -77,9 +77,9 @@ number-spelt ds v e =
     ]
 
 -- what is no spelling of a number is none
-pub not-number : (ds : List ℕ) → ((v : ℕ) → v ≤ max_number → ds ≡ decimal v → ⊥) → number_answer ds ≡ Err BadLine
-not-number ds none =
+pub not_number : (ds : List ℕ) → ((v : ℕ) → v ≤ max_number → ds ≡ decimal v → ⊥) → number_answer ds ≡ Err BadLine
+not_number ds none =
     elim (cases_Bool (is_number ds)) [
-      | inl t ↦ let h = number-spelt ds (digits_value 10 ds) (rw t refl) in absurd (none (digits_value 10 ds) h.1 h.0)
+      | inl t ↦ let h = number_spelt ds (digits_value 10 ds) (rw t refl) in absurd (none (digits_value 10 ds) h.1 h.0)
       | inr t ↦ rw t refl
     ]

@@ -18,9 +18,9 @@ abbrev pub joined : List (List ℕ) → List ℕ
 joined [] = []
 joined (f ∷ fs) = f ++ led fs
 
-joined-onto : (b : ℕ) (fs : List (List ℕ)) → joined (onto_field b fs) ≡ b ∷ joined fs
-joined-onto b [] = refl
-joined-onto b (f ∷ fs) = refl
+joined_onto : (b : ℕ) (fs : List (List ℕ)) → joined (onto_field b fs) ≡ b ∷ joined fs
+joined_onto b [] = refl
+joined_onto b (f ∷ fs) = refl
 
 led_fields : (bs : List ℕ) → led (fields_of bs) ≡ 32 ∷ joined (fields_of bs)
 led_fields bs = rw (field_cut bs) refl
@@ -30,7 +30,7 @@ joined_fields [] = refl
 joined_fields (b ∷ bs) =
     elim (cases_Bool (eqb b 32)) [
       | inl t ↦ rw (t, led_fields bs, joined_fields bs, eqb-true b 32 t) refl
-      | inr f ↦ rw (f, joined-onto b (fields_of bs), joined_fields bs) refl
+      | inr f ↦ rw (f, joined_onto b (fields_of bs), joined_fields bs) refl
     ]
 
 onto_no_blank : (b : ℕ) (fs : List (List ℕ)) → (b ≡ 32 → ⊥) → AllByRecursion NoBlank fs → AllByRecursion NoBlank (onto_field b fs)

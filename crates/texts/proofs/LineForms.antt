@@ -16,9 +16,9 @@ pub handed : (o : Option Field) (f : Field) (fs after : List (List ℕ)) → o �
 handed o f fs after e h = rw e at h
 
 -- a field of no bytes is none
-pub lone-empty : (f : List ℕ) (fs after : List (List ℕ)) → fs ≡ f ∷ after → after ≡ [] → length f ≡ 0 → lone fs ≡ []
-lone-empty [] fs after h e z = rw (h, e) refl
-lone-empty (b ∷ bs) fs after h e z = absurd (omega arith)
+pub lone_empty : (f : List ℕ) (fs after : List (List ℕ)) → fs ≡ f ∷ after → after ≡ [] → length f ≡ 0 → lone fs ≡ []
+lone_empty [] fs after h e z = rw (h, e) refl
+lone_empty (b ∷ bs) fs after h e z = absurd (omega arith)
 
 -- a plan wants one number
 pub no_switches : (k : List ℕ) (kind : PlanKind) (fs after : List (List ℕ)) → fs ≡ k ∷ after → kind_of (letter_of k) ≡ Some kind

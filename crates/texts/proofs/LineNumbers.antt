@@ -51,9 +51,9 @@ another g gs v w e = by_answer (number_answer g) refl
     by_answer (Err d) p = let q = numbers_err g gs d p in let y : ◌≡◌ {A = ℕ} 0 1 = cc in omega arith
 
 -- where a field is left, there is no lone number
-pub not-lone : (fs gs : List (List ℕ)) (v w : ℕ) → (gs ≡ [] → ⊥) → numbers fs ≡ onto v (numbers gs) → numbers fs ≡ Ok (w ∷ []) → ⊥
-not-lone fs [] v w some e f = some refl
-not-lone fs (g ∷ gs) v w some e f = another g gs v w (sym e ∙ f)
+pub not_lone : (fs gs : List (List ℕ)) (v w : ℕ) → (gs ≡ [] → ⊥) → numbers fs ≡ onto v (numbers gs) → numbers fs ≡ Ok (w ∷ []) → ⊥
+not_lone fs [] v w some e f = some refl
+not_lone fs (g ∷ gs) v w some e f = another g gs v w (sym e ∙ f)
 
 -- one more number of those that are read
 pub read_more : (vs : List ℕ) (f : List ℕ) (fs after : List (List ℕ)) (v : ℕ) → Ok v ≡ number_answer f → fs ≡ f ∷ after → prepend vs (numbers fs) ≡ prepend (vs ++ v ∷ []) (numbers after)

@@ -64,8 +64,8 @@ digit_bit (d ∷ ds) (suc j) h =
 byte_at : (digits : List ℕ) (i : ℕ) → 8 * i < length digits → get_or (bytes_of digits) i 0 ≡ byte_of (take 8 (drop (8 * i) digits))
 byte_at digits i h = get_or-map-range_with_len (λ i. byte_of (take 8 (drop (8 * i) digits))) 0 ((length digits + 7) / 8) i i 0 (omega arith) (omega arith)
 
-digit-read : (digits : List ℕ) (k : ℕ) → k < length digits → bit_at (bytes_of digits) k ≡ is_on (get_or digits k 0)
-digit-read digits k h =
+digit_read : (digits : List ℕ) (k : ℕ) → k < length digits → bit_at (bytes_of digits) k ≡ is_on (get_or digits k 0)
+digit_read digits k h =
     let eight = take 8 (drop (8 * (k / 8)) digits) in
     let within : k % 8 < length eight = simp (length-take, length-drop) (omega arith) in
     let place : 8 * (k / 8) + k % 8 ≡ k = omega arith in
@@ -73,9 +73,9 @@ digit-read digits k h =
     ∙ digit_bit eight (k % 8) within
     ∙ ap is_on (get_or-take 8 _ (k % 8) 0 (omega arith) ∙ get_or-drop (8 * (k / 8)) digits (k % 8) 0 ∙ ap (λ i. get_or digits i 0) place)
 
-setting-read : (digits : List ℕ) → setting_of (length digits) (bytes_of digits) ≡ map is_on digits
-setting-read digits =
-    sym (fill_by_all (bit_at (bytes_of digits)) (map is_on digits) (length digits) false (length-map digits is_on) (λ k h. get_or-map is_on digits k 0 false h ∙ sym (digit-read digits k h)))
+setting_read : (digits : List ℕ) → setting_of (length digits) (bytes_of digits) ≡ map is_on digits
+setting_read digits =
+    sym (fill_by_all (bit_at (bytes_of digits)) (map is_on digits) (length digits) false (length-map digits is_on) (λ k h. get_or-map is_on digits k 0 false h ∙ sym (digit_read digits k h)))
 
 none_spare : (digits : List ℕ) → 1 ≤ length digits → spare_bits (length digits) (bytes_of digits) ≡ 0
 none_spare digits some =
@@ -91,4 +91,4 @@ well_read digits some =
 pub digits_law : DigitsLaw
 digits_law n digits size some =
     let packed : packed_digits n digits ≡ bytes_of digits = ap (λ b. cond b (bytes_of digits) []) (eq-eqb _ _ size) in
-    rw (packed, ← size) (setting-read digits, well_read digits (omega arith))
+    rw (packed, ← size) (setting_read digits, well_read digits (omega arith))

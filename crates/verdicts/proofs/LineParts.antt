@@ -10,8 +10,8 @@ use Rattle.model.specs.Standings.{standing_words}
 use Rattle.clauses.proofs.Writing.{Begun, put_one, put_all, put_done}
 use Rattle.verdicts.specs.Verdicts.{refusal_number}
 
-pub length-short : (n : ℕ) → n < 2 ^ 16 → length (decimal n) ≤ 5
-length-short n h = length-decimal-le 5 n (omega arith) (omega arith) (omega arith)
+pub length_short : (n : ℕ) → n < 2 ^ 16 → length (decimal n) ≤ 5
+length_short n h = length-decimal-le 5 n (omega arith) (omega arith) (omega arith)
 
 pub words_short : (s : Standing) → length (standing_words s) ≤ 10
 words_short Open = omega arith
@@ -26,11 +26,11 @@ or_zero None = refl
 pub number_or_zero : (e : Refusal) → unwrap_or (number_of e) 0 ≡ refusal_number e
 number_or_zero e = or_zero (number_of e)
 
-pub length-one : (n : ℕ) → n < 10 → length (decimal n) ≡ 1
-length-one n h = ap length (decimal_digit n h)
+pub length_one : (n : ℕ) → n < 10 → length (decimal n) ≡ 1
+length_one n h = ap length (decimal_digit n h)
 
-pub length-step : (n : ℕ) → n < 2 ^ 16 → 10 ≤ n → length (decimal n) ≡ length (decimal (n / 10)) + 1
-length-step n h g = ap length (decimal_step n g (omega arith)) ∙ length-append (decimal (n / 10)) _
+pub length_step : (n : ℕ) → n < 2 ^ 16 → 10 ≤ n → length (decimal n) ≡ length (decimal (n / 10)) + 1
+length_step n h g = ap length (decimal_step n g (omega arith)) ∙ length-append (decimal (n / 10)) _
 
 -- before the line is written
 pub line_due : (line start : List ℕ) → Begun line start line 0 start
@@ -43,19 +43,19 @@ due at xs start = record { front = refl; behind = refl }
 placed : {r : ℕ} {out : List ℕ} (at : ℕ) (xs start : List ℕ) → r ≤ length out → Begun (take at start ++ xs) start [] r out → out ≡ take at start ++ xs ++ drop r start
 placed at xs start h b = let d = put_done h b in d.1 ∙ ap (λ k. take at start ++ xs ++ drop k start) (sym d.0)
 
-pub placed-none : (at : ℕ) (out : List ℕ) → out ≡ take at out ++ [] ++ drop at out
-placed-none at out = sym (rw append-nil (take-append-drop at out))
+pub placed_none : (at : ℕ) (out : List ℕ) → out ≡ take at out ++ [] ++ drop at out
+placed_none at out = sym (rw append-nil (take-append-drop at out))
 
 -- a byte, and then a list
-pub placed-after : (x at r : ℕ) (xs start out : List ℕ) → at < length start → r ≡ at + 1 + length xs → r ≤ length out
+pub placed_after : (x at r : ℕ) (xs start out : List ℕ) → at < length start → r ≡ at + 1 + length xs → r ≤ length out
     → out ≡ take (at + 1) (set start at x) ++ xs ++ drop r (set start at x) → out ≡ take at start ++ (x ∷ xs) ++ drop r start
-placed-after x at r xs start out h e room o =
+placed_after x at r xs start out h e room o =
     let first = put_one h refl (due at (x ∷ xs) start) in
     placed at (x ∷ xs) start room (put_all xs [] (simp length-set (omega arith)) e o (sym (append-nil xs)) first)
 
 -- a number's last digit, which no other is before
-pub placed-digit : (n at : ℕ) (out : List ℕ) → n < 10 → at < length out → set out at (48 + n % 10) ≡ take at out ++ decimal n ++ drop (at + 1) out
-placed-digit n at out h room =
+pub placed_digit : (n at : ℕ) (out : List ℕ) → n < 10 → at < length out → set out at (48 + n % 10) ≡ take at out ++ decimal n ++ drop (at + 1) out
+placed_digit n at out h room =
     let e : n % 10 ≡ n = omega arith in
     placed at (decimal n) out (simp length-set (omega arith)) (put_one room (rw e (decimal_digit n h)) (due at (decimal n) out))
 

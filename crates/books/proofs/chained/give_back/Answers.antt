@@ -2,11 +2,11 @@ use Rattle.std.proofs.Common.{ap}
 use Rattle.books.specs.declared.cells.Cell.{Cell}
 use Rattle.books.specs.Chained.{cells_of}
 use Rattle.books.proofs.ChainedLinks.{chain_next}
-use Rattle.books.proofs.ChainedMoves.{moved, given-none, given_all}
+use Rattle.books.proofs.ChainedMoves.{moved, given_none, given_all}
 use Rattle.books.proofs.chained.give_back.Goals as goal
 
 pub loop-left-init : goal.loop-left-init
-loop-left-init c = given-none _ _ _ c.requires.first c.requires.free
+loop-left-init c = given_none _ _ _ c.requires.first c.requires.free
 
 pub get-left-requires : goal.get-left-requires
 get-left-requires c = let n = chain_next _ _ c.loop-left.invariant.ends_a c.loop-left-test.true in record { number_nonzero = n.pos; number_in_bounds = n.within }

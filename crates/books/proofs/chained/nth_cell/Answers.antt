@@ -1,7 +1,7 @@
 use Rattle.std.proofs.Common.{◌≡◌, ◌-◌, get_or, sym, ap, ◌∙◌, arith}
 use Rattle.books.specs.declared.cells.Cell.{Cell}
 use Rattle.books.specs.Chained.{cells_of, chain}
-use Rattle.books.proofs.ChainedLinks.{chain_next, chain-none, chain_first, chain_passed}
+use Rattle.books.proofs.ChainedLinks.{chain_next, chain_none, chain_first, chain_passed}
 use Rattle.books.proofs.chained.nth_cell.Goals as goal
 
 pub loop-passed-init : goal.loop-passed-init
@@ -20,7 +20,7 @@ pub returns-then-cell-eq0 : goal.returns-then-cell-eq0
 returns-then-cell-eq0 c =
     let cs = cells_of c.args.table.now in
     let k = c.args.place - c.loop-passed.passed in
-    sym (ap (λ h. get_or (chain cs h) k 0) c.if-cell-eq0.true ∙ ap (λ is. get_or is k 0) (chain-none cs).1) ∙ c.loop-passed.invariant.1
+    sym (ap (λ h. get_or (chain cs h) k 0) c.if-cell-eq0.true ∙ ap (λ is. get_or is k 0) (chain_none cs).1) ∙ c.loop-passed.invariant.1
 
 pub returns : goal.returns
 returns c =

@@ -1,14 +1,14 @@
 use Rattle.std.proofs.Common.{◌≡◌, ℕ, [], ◌++◌, drop, sym, inl, inr, arith, rules}
 use Rattle.std.proofs.lemmas.List.{append-nil, length-take, length-drop, drop_all, take_rest}
 use Rattle.clauses.specs.Joining.{merged}
-use Rattle.clauses.proofs.Steps.{merged-step, merged_end}
+use Rattle.clauses.proofs.Steps.{merged_step, merged_end}
 use Rattle.clauses.proofs.Writing.{put_none, put_one, put_all, put_done}
 use Rattle.clauses.proofs.joining.merge.Goals as goal
 use Rattle.clauses.proofs.joining.merge.Goals.{then-loop-i-test+else-j-right, else-loop-i-test, in-Some, in_default}
 
 pub loop-i-preserved : goal.loop-i-preserved
 loop-i-preserved c =
-    let e = merged-step _ _ _ _ _ c.loop-i-test.true c.if-j-right.true c.compare-meeting.ensures in
+    let e = merged_step _ _ _ _ _ c.loop-i-test.true c.if-j-right.true c.compare-meeting.ensures in
     let f = simp (← c.kept.ensures, ← c.used-lefts.ensures) at e in (
       elim c.match-kept.branch [
         | in-Some w ↦ simp (w.out-is, w.count-is) (put_one (omega arith) (simp w.in-Some.is at f) c.loop-i.invariant.0)

@@ -4,7 +4,7 @@ use Rattle.std.proofs.lemmas.Result.{err_from_is_err_and}
 use Rattle.plans.specs.PlanStates.{plan_of}
 use Rattle.texts.specs.Characters.{first}
 use Rattle.texts.specs.Readers.{rest_of}
-use Rattle.formulas.proofs.ReadingSteps.{gate_outcome, gate_switches, deep_not, deep_open, read_else, not_fault, not-read, left_fault, no_sign, right_fault, no_close, join_read}
+use Rattle.formulas.proofs.ReadingSteps.{gate_outcome, gate_switches, deep_not, deep_open, read_else, not_fault, not_read, left_fault, no_sign, right_fault, no_close, join_read}
 use Rattle.formulas.proofs.reading.+read.Goals as goal
 use Rattle.formulas.proofs.reading.+read.Goals.{in_default-via-in-Some+in_default, in_default-via-in_default}
 
@@ -32,7 +32,7 @@ returns-in_ok-inner-in-Some-eq45 g t c =
     record {
       switches = gate_switches c.gate.result q _ _ _ c.gate.ensures.after ∙ c.read.ensures.switches;
       reads =
-          not-read g.G.GateKind.kind _ _ _ _ c.if-depth-eq0.false c.skip.ensures f _ _ q _ c.in_ok-inner-in-Some-eq45.ensures.reads
+          not_read g.G.GateKind.kind _ _ _ _ c.if-depth-eq0.false c.skip.ensures f _ _ q _ c.in_ok-inner-in-Some-eq45.ensures.reads
           (gate_outcome g.G.GateKind.kind 16 _ _ q _ _ c.gate.ensures.answer c.gate.ensures.after);
     }
 

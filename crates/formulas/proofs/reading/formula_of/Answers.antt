@@ -4,7 +4,7 @@ use Rattle.clauses.specs.declared.refusals.Refusal.{Refusal}
 use Rattle.model.specs.Plans.{Plan, begun}
 use Rattle.plans.specs.PlanStates.{plan_of}
 use Rattle.formulas.specs.Reading.{fresh, formula_done, formula_plan}
-use Rattle.formulas.proofs.FormulaAnswers.{complete-not-fresh, gates-not-fresh, is_fresh, count_records, fresh-begun, out_of_place, too_long, as_read, refused_plan, accepted_plan}
+use Rattle.formulas.proofs.FormulaAnswers.{complete_not_fresh, gates_not_fresh, is_fresh, count_records, fresh_begun, out_of_place, too_long, as_read, refused_plan, accepted_plan}
 use Rattle.formulas.proofs.reading.formula_of.Goals as goal
 use Rattle.formulas.proofs.reading.formula_of.Goals.{then-is_complete-via-then-is_complete, then-is_complete-via-else-is_complete+then-gates-ne0}
 
@@ -13,8 +13,8 @@ returns-then-is_complete g c =
     let p = plan_of c.args.plan.now in
     let placed : fresh p ≡ false =
     elim c.then-is_complete.branch [
-      | then-is_complete-via-then-is_complete w ↦ complete-not-fresh p (sym c.is_complete.ensures ∙ w.if-is_complete.true)
-      | then-is_complete-via-else-is_complete+then-gates-ne0 w ↦ gates-not-fresh p (λ z. w.if-gates-ne0.true (sym (count_records _ _ w.gates.ensures) ∙ z))
+      | then-is_complete-via-then-is_complete w ↦ complete_not_fresh p (sym c.is_complete.ensures ∙ w.if-is_complete.true)
+      | then-is_complete-via-else-is_complete+then-gates-ne0 w ↦ gates_not_fresh p (λ z. w.if-gates-ne0.true (sym (count_records _ _ w.gates.ensures) ∙ z))
     ] in
     let e = out_of_place g.G.GateKind.kind p c.args.text.now placed in
     record { answer = ap formula_done (sym e); after = ap (λ (a : Result Plan Refusal). formula_plan a p) (sym e) }
@@ -35,7 +35,7 @@ returns-then-is_err g c =
     let same = refused_plan _ c.read_whole-read.result p c.read_whole-read.ensures.answer (sym c.if-is_err.ensures.value) in
     record {
       answer = c.read_whole-read.ensures.answer ∙ ap formula_done (sym e);
-      after = c.clear.ensures ∙ ap begun c.read_whole-read.ensures.switches ∙ sym (fresh-begun p growing bare) ∙ sym same ∙ ap (λ (a : Result Plan Refusal). formula_plan a p) (sym e);
+      after = c.clear.ensures ∙ ap begun c.read_whole-read.ensures.switches ∙ sym (fresh_begun p growing bare) ∙ sym same ∙ ap (λ (a : Result Plan Refusal). formula_plan a p) (sym e);
     }
 
 pub returns-else-is_err : goal.returns-else-is_err

@@ -3,7 +3,7 @@ use Rattle.gates.specs.Kinds.{past_end}
 use Rattle.gates.specs.Nodes.{node_of}
 use Rattle.gates.specs.GateClauses.{put_in, node_patterns, kept_length}
 use Rattle.gates.proofs.Filling.{length_filled, step_count, step_buffer, end_buffer, end_front}
-use Rattle.gates.proofs.Known.{known-code, known-full, known_since, known_within, known_pattern}
+use Rattle.gates.proofs.Known.{known_code, known_full, known_since, known_within, known_pattern}
 use Rattle.gates.proofs.PatternSizes.{pattern_short, literal_in_place}
 use Rattle.gates.proofs.gate_clauses.fill_clause.Goals as goal
 
@@ -12,21 +12,21 @@ pattern_size-place-end-requires g c =
     let K = g.G.GateKind.kind in
     let node = node_of c.args.node.now in
     let k = known_since K node c.args.index c.requires.within in
-    record { known = known-code K node k; within = known_within K node c.args.index k c.requires.within }
+    record { known = known_code K node k; within = known_within K node c.args.index k c.requires.within }
 
 pub pattern_literal-requires : goal.pattern_literal-requires
 pattern_literal-requires g c =
     let K = g.G.GateKind.kind in
     let node = node_of c.args.node.now in
     let k = known_since K node c.args.index c.requires.within in
-    record { known = known-code K node k; within = known_within K node c.args.index k c.requires.within; inside = omega arith }
+    record { known = known_code K node k; within = known_within K node c.args.index k c.requires.within; inside = omega arith }
 
 pub put_in-literal-requires : goal.put_in-literal-requires
 put_in-literal-requires g c =
     let K = g.G.GateKind.kind in
     let node = node_of c.args.node.now in
     let k = known_since K node c.args.index c.requires.within in
-    literal_in_place K g.met.G.GateKind.sized node.code c.args.index c.loop-place.place _ c.pattern_literal.result (known-code K node k) (known-full K node k) (omega arith) c.pattern_literal.ensures
+    literal_in_place K g.met.G.GateKind.sized node.code c.args.index c.loop-place.place _ c.pattern_literal.result (known_code K node k) (known_full K node k) (omega arith) c.pattern_literal.ensures
 
 pub insert-count-requires : goal.insert-count-requires
 insert-count-requires g c =
@@ -35,7 +35,7 @@ insert-count-requires g c =
     let pattern = get_or (node_patterns K node) c.args.index [] in
     let k = known_since K node c.args.index c.requires.within in
     let same = ap length (known_pattern K node c.args.index k) in
-    omega (arith, same, pattern_short K g.met.G.GateKind.sized node.code c.args.index (known-code K node k), length_filled (put_in c.args.output node.operands) pattern c.loop-place.place (omega arith), c.loop-place.invariant.0)
+    omega (arith, same, pattern_short K g.met.G.GateKind.sized node.code c.args.index (known_code K node k), length_filled (put_in c.args.output node.operands) pattern c.loop-place.place (omega arith), c.loop-place.invariant.0)
 
 pub loop-place-preserved : goal.loop-place-preserved
 loop-place-preserved g c =
@@ -45,9 +45,9 @@ loop-place-preserved g c =
     let f = put_in c.args.output node.operands in
     let same = known_pattern K node c.args.index (known_since K node c.args.index c.requires.within) in
     let size = ap length same in
-    let literal-is = c.put_in-literal.ensures ∙ ap f (c.pattern_literal.ensures ∙ ap (λ p. get_or p c.loop-place.place past_end) (sym same)) in (
-      step_count f pattern c.args.out.now c.loop-place.out c.loop-place.place c.loop-place.count c.put_in-literal.result (omega arith) c.loop-place.invariant.0 c.loop-place.invariant.1 literal-is c.insert-count.result c.insert-count.ensures.count,
-      step_buffer f pattern c.args.out.now c.loop-place.out c.loop-place.place c.loop-place.count c.put_in-literal.result (omega arith) c.loop-place.invariant.0 c.loop-place.invariant.1 literal-is c.insert-count.new.clause c.insert-count.ensures.buffer,
+    let literal_is = c.put_in-literal.ensures ∙ ap f (c.pattern_literal.ensures ∙ ap (λ p. get_or p c.loop-place.place past_end) (sym same)) in (
+      step_count f pattern c.args.out.now c.loop-place.out c.loop-place.place c.loop-place.count c.put_in-literal.result (omega arith) c.loop-place.invariant.0 c.loop-place.invariant.1 literal_is c.insert-count.result c.insert-count.ensures.count,
+      step_buffer f pattern c.args.out.now c.loop-place.out c.loop-place.place c.loop-place.count c.put_in-literal.result (omega arith) c.loop-place.invariant.0 c.loop-place.invariant.1 literal_is c.insert-count.new.clause c.insert-count.ensures.buffer,
     )
 
 pub slice_bounds-kept_length-end : goal.slice_bounds-kept_length-end
@@ -58,7 +58,7 @@ slice_bounds-kept_length-end g c =
     let k = known_since K node c.args.index c.requires.within in
     let same = ap length (known_pattern K node c.args.index k) in
     let few : c.loop-place.count ≤ length c.loop-place.out =
-    omega (arith, same, pattern_short K g.met.G.GateKind.sized node.code c.args.index (known-code K node k), length_filled (put_in c.args.output node.operands) pattern c.loop-place.place (omega arith), c.loop-place.invariant.0) in
+    omega (arith, same, pattern_short K g.met.G.GateKind.sized node.code c.args.index (known_code K node k), length_filled (put_in c.args.output node.operands) pattern c.loop-place.place (omega arith), c.loop-place.invariant.0) in
     search rules
 
 pub returns : goal.returns

@@ -1,8 +1,8 @@
-use Rattle.gates.proofs.WidePlaces.{short-operand, short_output, long_operand, long_output}
+use Rattle.gates.proofs.WidePlaces.{short_operand, short_output, long_operand, long_output}
 use Rattle.gates.proofs.wide.plain_literal.Goals as goal
 
 pub returns-then-place-eq0 : goal.returns-then-place-eq0
-returns-then-place-eq0 c = short-operand c.args.any c.args.operands c.args.index c.if-index-operands.true c.args.place c.if-place-eq0.true
+returns-then-place-eq0 c = short_operand c.args.any c.args.operands c.args.index c.if-index-operands.true c.args.place c.if-place-eq0.true
 
 pub returns-else-place-eq0 : goal.returns-else-place-eq0
 returns-else-place-eq0 c =

@@ -3,7 +3,7 @@ use Rattle.std.proofs.Common.{◌+◌, ◌≤◌, refl, arith}
 use Rattle.gates.specs.Nodes.{node_of}
 use Rattle.plans.proofs.ClausesLeft.{next_kept, next_left_out, none_left}
 use Rattle.plans.proofs.Counting.{counted_same, counted_one, counted_all}
-use Rattle.plans.proofs.Counts.{node-few}
+use Rattle.plans.proofs.Counts.{node_few}
 use Rattle.plans.proofs.demands.node_demand.Given as given
 use Rattle.plans.proofs.demands.node_demand.Goals as goal
 use Rattle.plans.proofs.demands.node_demand.Goals.{in-Some, in_default, In-Some}
@@ -15,7 +15,7 @@ few g c =
     let node = node_of c.args.node.now in
     let next = next_kept K c.args.output node c.loop-index.index (omega arith) _ c.in-Some.ensures.answer in
     let t = counted_one c.loop-index.invariant.1 _ _ next.1 _ next.0 _ refl in
-    let all = node-few K g.met.G.GateKind.sized c.args.output node in
+    let all = node_few K g.met.G.GateKind.sized c.args.output node in
     (omega arith, omega arith)
 
 pub overflow_add-demand : goal.overflow_add-demand

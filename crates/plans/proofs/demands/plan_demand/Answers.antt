@@ -1,12 +1,12 @@
 -- The clauses of the gates, and the root's where there is one.
 use Rattle.std.proofs.Common.{◌≤◌, arith}
-use Rattle.plans.proofs.PlanDemand.{few-signals, few_demanded, demand_with_root}
+use Rattle.plans.proofs.PlanDemand.{few_signals, few_demanded, demand_with_root}
 use Rattle.plans.proofs.demands.plan_demand.Given as given
 use Rattle.plans.proofs.demands.plan_demand.Goals as goal
 use Rattle.plans.proofs.demands.plan_demand.Goals.{After-nodes_demand-demand}
 
 pub nodes_demand-demand-requires : goal.nodes_demand-demand-requires
-nodes_demand-demand-requires g c = omega (arith, few-signals c.args.plan.now _ _ c.switches.ensures c.gates.ensures)
+nodes_demand-demand-requires g c = omega (arith, few_signals c.args.plan.now _ _ c.switches.ensures c.gates.ensures)
 
 few : (g : given.Over) (c : goal.After-nodes_demand-demand g) → (c.nodes_demand-demand.result.numbers ≤ 8192) × (c.nodes_demand-demand.result.cells ≤ 147456)
 few g c = few_demanded c.args.plan.now _ _ c.switches.ensures c.gates.ensures g.G.GateKind.kind _ c.nodes_demand-demand.ensures g.met.G.GateKind.sized

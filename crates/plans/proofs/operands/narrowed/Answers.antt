@@ -1,12 +1,12 @@
 -- Each operand is a signal, so it fits the width of a record's.
 use Rattle.std.proofs.Common.{◌≡◌, [], ◌∷◌, ◌++◌, length, get_or, sym, ap, ◌∙◌, arith, length-set, take_all}
 use Rattle.std.proofs.lemmas.List.{take_more, take_more_set}
-use Rattle.model.proofs.Reasons.{signals-earlier}
+use Rattle.model.proofs.Reasons.{signals_earlier}
 use Rattle.plans.proofs.operands.narrowed.Goals as goal
 
 pub overflow_cast-kept : goal.overflow_cast-kept
 overflow_cast-kept c =
-    let few = signals-earlier c.args.signals c.args.operands.now c.requires.there c.loop-i.i (omega arith) in
+    let few = signals_earlier c.args.signals c.args.operands.now c.requires.there c.loop-i.i (omega arith) in
     omega arith
 
 pub loop-i-preserved : goal.loop-i-preserved

@@ -19,35 +19,35 @@ root_value : (K : Kind) (p : Plan) (bytes : List ℕ) (root switches count part 
     → unpacked ≡ setting_of part bytes
     → evaluated ≡ values_of K (map node_of gates) (take switches (take count (unpacked ++ behind)))
     → value_at (take count (evaluated ++ rest)) root ≡ true_under K p (setting_of p.switches bytes)
-root_value K p bytes root switches count part gates unpacked behind evaluated rest is_root is-switches is-gates whole fewer full packed made =
-    let set : unpacked ≡ setting_of p.switches bytes = packed ∙ ap (λ n. setting_of n bytes) (whole ∙ is-switches) in
+root_value K p bytes root switches count part gates unpacked behind evaluated rest is_root is_switches is_gates whole fewer full packed made =
+    let set : unpacked ≡ setting_of p.switches bytes = packed ∙ ap (λ n. setting_of n bytes) (whole ∙ is_switches) in
     let long : length unpacked ≡ switches = ap length packed ∙ length-map-range_with_len (bit_at bytes) 0 part ∙ whole in
     let front : take switches (take count (unpacked ++ behind)) ≡ unpacked = take-take switches count (unpacked ++ behind) fewer ∙ take_at unpacked behind switches long in
     let values : take count (evaluated ++ rest) ≡ plan_values K p (setting_of p.switches bytes) =
-    take_at evaluated rest count full ∙ made ∙ ap₂ (values_of K) is-gates (front ∙ set) in
+    take_at evaluated rest count full ∙ made ∙ ap₂ (values_of K) is_gates (front ∙ set) in
     ap (λ vs. value_at vs root) values
     ∙ ap (λ (o : Option ℕ). elim o [ Some r ↦ value_at (plan_values K p (setting_of p.switches bytes)) r | None ↦ false ]) is_root
 
 -- the sizes that a plan keeps leave room for the values of all its signals
-few-signals : {G : Type 0} {g : Ghosts G} (p : Kept G g) → signals (plan_of p) ≤ 512
-few-signals p = omega (arith, length-map (vec_items p.gates) node_of, p.sizes)
+few_signals : {G : Type 0} {g : Ghosts G} (p : Kept G g) → signals (plan_of p) ≤ 512
+few_signals p = omega (arith, length-map (vec_items p.gates) node_of, p.sizes)
 
 pub slice_bounds-values-end-2 : goal.slice_bounds-values-end-2
-slice_bounds-values-end-2 g c = let few = few-signals c.args.plan.now in search (rules, overwrites)
+slice_bounds-values-end-2 g c = let few = few_signals c.args.plan.now in search (rules, overwrites)
 
 pub evaluate-requires : goal.evaluate-requires
 evaluate-requires g c =
-    let few = few-signals c.args.plan.now in
+    let few = few_signals c.args.plan.now in
     let gates : length c.gates.result.now ≡ length (plan_of c.args.plan.now).gates = sym (length-map c.gates.result.now node_of) ∙ ap length c.gates.ensures in
     let set : length c.unpack.new.values ≡ c.switches-switches.result = search (rules, overwrites) in
     simp (length-take, length-append, length-drop) (omega arith)
 
 pub slice_bounds-value_at-end : goal.slice_bounds-value_at-end
-slice_bounds-value_at-end g c = let few = few-signals c.args.plan.now in search (rules, overwrites)
+slice_bounds-value_at-end g c = let few = few_signals c.args.plan.now in search (rules, overwrites)
 
 pub returns : goal.returns
 returns g c =
-    let few = few-signals c.args.plan.now in
+    let few = few_signals c.args.plan.now in
     c.value_at.ensures
     ∙ root_value g.G.GateKind.kind (plan_of c.args.plan.now) c.args.setting.now c.in-Some.root c.switches-switches.result _ _ c.gates.result.now c.unpack.new.values _ c.evaluate.new.values _
     c.in-Some.ensures c.switches-switches.ensures c.gates.ensures (simp length-take (omega arith)) (omega arith) (search (rules, overwrites)) c.unpack.ensures c.evaluate.ensures

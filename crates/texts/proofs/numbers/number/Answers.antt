@@ -6,7 +6,7 @@ use Rattle.std.proofs.lemmas.Int.Digits.{digits_value_more, digits_more}
 use Rattle.std.proofs.lemmas.Str.Parse.{digit_at}
 use Rattle.std.proofs.lemmas.Fmt.{decimal-digits_value}
 use Rattle.texts.specs.Numbers.{max_number}
-use Rattle.texts.proofs.Decimals.{own, spelling, digit_value, number_of, not-number}
+use Rattle.texts.proofs.Decimals.{own, spelling, digit_value, number_of, not_number}
 use Rattle.texts.proofs.numbers.number.Goals as goal
 use Rattle.texts.proofs.numbers.number.Goals.{then-field-eq0-via-then-field-eq0, then-field-eq0-via-else-field-eq0+then-field-gt5, then-field-eq0-via-else-field-eq0+else-field-gt5+then-field-gt1, then-byte-lt48-via-then-byte-lt48, then-byte-lt48-via-else-byte-lt48+then-byte-gt57}
 
@@ -18,9 +18,9 @@ returns-then-field-eq0 c =
     elim c.then-field-eq0.branch [
       | then-field-eq0-via-then-field-eq0 w ↦ omega arith
       | then-field-eq0-via-else-field-eq0+then-field-gt5 w ↦ omega arith
-      | then-field-eq0-via-else-field-eq0+else-field-gt5+then-field-gt1 w ↦ omega (arith, s.plain-first w.if-field-gt1.true.0)
+      | then-field-eq0-via-else-field-eq0+else-field-gt5+then-field-gt1 w ↦ omega (arith, s.plain_first w.if-field-gt1.true.0)
     ] in
-    record { answer = sym (not-number _ none); exact = none }
+    record { answer = sym (not_number _ none); exact = none }
 
 pub returns-then-byte-lt48 : goal.returns-then-byte-lt48
 returns-then-byte-lt48 c =
@@ -29,7 +29,7 @@ returns-then-byte-lt48 c =
     let s = spelling _ v small e in
     let d = digit_at _ c.loop-byte.byte-index s.digits c.loop-byte-test.true in
     elim c.then-byte-lt48.branch [ then-byte-lt48-via-then-byte-lt48 w ↦ omega arith | then-byte-lt48-via-else-byte-lt48+then-byte-gt57 w ↦ omega arith ] in
-    record { answer = sym (not-number _ none); exact = none }
+    record { answer = sym (not_number _ none); exact = none }
 
 pub loop-byte-preserved : goal.loop-byte-preserved
 loop-byte-preserved c =
@@ -45,7 +45,7 @@ returns-then-value-gt-MAX_NUMBER c =
     let s = spelling _ v small e in
     let w : c.loop-byte.value ≡ digits_value 10 c.args.field.now = rw (take_all _ _ c.loop-byte-test.false) at c.loop-byte.invariant.0 in
     omega arith in
-    record { answer = sym (not-number _ none); exact = none }
+    record { answer = sym (not_number _ none); exact = none }
 
 pub returns : goal.returns
 returns c =

@@ -2,7 +2,7 @@ use Rattle.std.proofs.Common.{◌-◌, None, vec_items, sym, ap, arith, rules}
 use Rattle.std.proofs.lemmas.List.{length-append, length-set}
 use Rattle.books.specs.Promise.{strike_answer}
 use Rattle.books.specs.Chained.{cells_of, chain}
-use Rattle.books.proofs.ChainedBooks.{sized, Found, found, missing, struck-left, struck_means}
+use Rattle.books.proofs.ChainedBooks.{sized, Found, found, missing, struck_left, struck_means}
 use Rattle.books.proofs.chained.ChainedBookClauseBook.strike.Goals as goal
 use Rattle.books.proofs.chained.ChainedBookClauseBook.strike.Goals.{In_ok-first}
 
@@ -34,7 +34,7 @@ pub invariant_of-self : goal.invariant_of-self
 invariant_of-self c =
     let b = c.args.self.now in
     let f = at (goal.at.invariant_of-self c).In_ok-first in
-    let l = struck-left b c.args.number c.in_ok-first.first f (cells_of c.give_back-self.new.table) c.give_back-self.result c.give_back-self.ensures in
+    let l = struck_left b c.args.number c.in_ok-first.first f (cells_of c.give_back-self.new.table) c.give_back-self.result c.give_back-self.ensures in
     let size = c.give_back-self.ensures.size in
     let spare = l.spare in
     record {
@@ -49,7 +49,7 @@ pub returns : goal.returns
 returns c =
     let b = c.args.self.now in
     let f = at (goal.at.returns c).In_ok-first in
-    let l = struck-left b c.args.number c.in_ok-first.first f (cells_of c.give_back-self.new.table) c.give_back-self.result c.give_back-self.ensures in
+    let l = struck_left b c.args.number c.in_ok-first.first f (cells_of c.give_back-self.new.table) c.give_back-self.result c.give_back-self.ensures in
     record {
       answer = sym (ap strike_answer f.clause);
       after = struck_means b c.args.number c.in_ok-first.first f (cells_of c.give_back-self.new.table) c.give_back-self.result _ c.give_back-self.ensures.size l;

@@ -2,7 +2,7 @@ use Rattle.std.proofs.Common.{Ok, vec_items, sym, ap, ◌∙◌, arith}
 use Rattle.books.specs.Chained.{cells_of}
 use Rattle.books.proofs.BookAnswers.{write_granted}
 use Rattle.books.proofs.ChainedHeads.{free_once}
-use Rattle.books.proofs.ChainedBooks.{sized, meaning_of, given_is, free_numbers_is, free_cells_is, written-left, written_means}
+use Rattle.books.proofs.ChainedBooks.{sized, meaning_of, given_is, free_numbers_is, free_cells_is, written_left, written_means}
 use Rattle.books.proofs.chained.ChainedBookClauseBook.write.Goals as goal
 
 pub take_cells-fronts-requires : goal.take_cells-fronts-requires
@@ -22,7 +22,7 @@ invariant_of-self c =
     let b = c.args.self.now in
     let n = free_numbers_is b in
     let t = c.take_cells-fronts.ensures in
-    let l = written-left b c.args.literals.now _ _ _ _ t.parted t.holds (omega arith) c.push_reserved.ensures.items in
+    let l = written_left b c.args.literals.now _ _ _ _ t.parted t.holds (omega arith) c.push_reserved.ensures.items in
     let size = t.parted.size in
     let spare = l.spare in
     record {
@@ -37,7 +37,7 @@ pub returns : goal.returns
 returns c =
     let b = c.args.self.now in
     let t = c.take_cells-fronts.ensures in
-    let l = written-left b c.args.literals.now _ _ _ _ t.parted t.holds (omega arith) c.push_reserved.ensures.items in
+    let l = written_left b c.args.literals.now _ _ _ _ t.parted t.holds (omega arith) c.push_reserved.ensures.items in
     record {
       answer = ap Ok (omega (arith, given_is b)) ∙ sym (write_granted (meaning_of b) c.args.literals.now (omega arith) (omega arith) (omega arith));
       after = written_means b c.args.literals.now _ _ _ _ t.parted.size l;

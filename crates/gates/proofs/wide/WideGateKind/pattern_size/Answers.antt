@@ -1,7 +1,7 @@
 use Rattle.std.proofs.Common.{sym, ◌∙◌, arith}
 use Rattle.gates.specs.WideGates.{function, disjunctive, inverting, wide_arity, plain_patterns}
-use Rattle.gates.proofs.Inverting.{size-inverted, count_inverted}
-use Rattle.gates.proofs.WidePlaces.{plain_count, short-size, long_size}
+use Rattle.gates.proofs.Inverting.{size_inverted, count_inverted}
+use Rattle.gates.proofs.WidePlaces.{plain_count, short_size, long_size}
 use Rattle.gates.proofs.wide.WideGateKind.pattern_size.Goals as goal
 
 pub returns-then-index-operands : goal.returns-then-index-operands
@@ -11,8 +11,8 @@ returns-then-index-operands c =
     let plain = plain_patterns (disjunctive f) k in
     sym
     (
-    size-inverted plain c.args.index (omega (arith, plain_count (disjunctive f) k, c.if-index-operands.true)) (inverting f)
-    ∙ short-size (disjunctive f) k c.args.index c.if-index-operands.true
+    size_inverted plain c.args.index (omega (arith, plain_count (disjunctive f) k, c.if-index-operands.true)) (inverting f)
+    ∙ short_size (disjunctive f) k c.args.index c.if-index-operands.true
     )
 
 pub returns-else-index-operands : goal.returns-else-index-operands
@@ -22,6 +22,6 @@ returns-else-index-operands c =
     let plain = plain_patterns (disjunctive f) k in
     sym
     (
-    size-inverted plain c.args.index (omega (arith, count_inverted plain (inverting f), c.requires.within)) (inverting f)
+    size_inverted plain c.args.index (omega (arith, count_inverted plain (inverting f), c.requires.within)) (inverting f)
     ∙ long_size (disjunctive f) k c.args.index c.if-index-operands.false (omega (arith, count_inverted plain (inverting f), plain_count (disjunctive f) k, c.requires.within))
     )

@@ -24,8 +24,8 @@ join-requires g c =
     let b = c.args.book.now in
     let l = stands (clause_at (g.B.ClauseBook.meaning b) c.args.left) _ c.in_ok-left_count.ensures.answer in
     let r = stands (clause_at (g.B.ClauseBook.meaning b) c.args.right) _ c.in_ok-right_count.ensures.answer in
-    let short-left = (g.met.B.ClauseBook.sized b).short c.args.left l.clause l.is in
-    let short-right = (g.met.B.ClauseBook.sized b).short c.args.right r.clause r.is in
+    let short_left = (g.met.B.ClauseBook.sized b).short c.args.left l.clause l.is in
+    let short_right = (g.met.B.ClauseBook.sized b).short c.args.right r.clause r.is in
     simp length-take (omega (arith, c.fits-out))
 
 pub returns : goal.returns

@@ -20,9 +20,9 @@ returns c =
           let short = words_short standing in
           let words = w.put_text-words.ensures in
           let count = w.put_count-end.ensures in
-          let after-words = put_all w.as_bytes.result.now rest (omega arith) words.end words.buffer (rw said refl) (line_due (standing_words standing ++ rest) start) in
-          let after-count = put_all (count_text standing) (10 ∷ []) (omega arith) count.end count.buffer refl after-words in
-          simp (w.end-is, w.out-is, w.in-Stands.is) (after-count, omega arith)
+          let after_words = put_all w.as_bytes.result.now rest (omega arith) words.end words.buffer (rw said refl) (line_due (standing_words standing ++ rest) start) in
+          let after_count = put_all (count_text standing) (10 ∷ []) (omega arith) count.end count.buffer refl after_words in
+          simp (w.end-is, w.out-is, w.in-Stands.is) (after_count, omega arith)
       | in-Refused w ↦
           let line = spaced w.in-Refused.line in
           let number = refusal_number w.in-Refused.refusal in
@@ -31,10 +31,10 @@ returns c =
           let words = w.put_text-words-in-Refused.ensures in
           let place = w.put_spaced-place.ensures in
           let reason = w.put_spaced-end.ensures in
-          let after-words = put_all (codes "refused") (line ++ rest) (omega arith) words.end words.buffer refl (line_due (codes "refused" ++ (line ++ rest)) start) in
-          let after_Line = put_all line rest (omega arith) place.end place.buffer refl after-words in
-          let after-number = put_all (spaced w.from.result) (10 ∷ []) (omega arith) reason.end reason.buffer (rw same refl) after_Line in
-          simp (w.end-is, w.out-is, w.in-Refused.is) (after-number, omega arith)
+          let after_words = put_all (codes "refused") (line ++ rest) (omega arith) words.end words.buffer refl (line_due (codes "refused" ++ (line ++ rest)) start) in
+          let after_Line = put_all line rest (omega arith) place.end place.buffer refl after_words in
+          let after_number = put_all (spaced w.from.result) (10 ∷ []) (omega arith) reason.end reason.buffer (rw same refl) after_Line in
+          simp (w.end-is, w.out-is, w.in-Refused.is) (after_number, omega arith)
     ] in
     let done = put_done (simp length-set (omega arith)) (put_one but_last.1 refl but_last.0) in
     record { count = done.0; buffer = done.1 }
