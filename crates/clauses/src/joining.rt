@@ -5,6 +5,7 @@ ghost use Rattle.clauses.specs.Literals.{signal};
 ghost use Rattle.clauses.specs.Joining.{meeting, kept, used, clashes, merged, listed, only, joined_length, joined_buffer};
 ghost use Rattle.clauses.specs.JoiningLaw.{JoiningLaw};
 
+use crate::buffers::copy_at;
 use crate::literals::signal;
 use crate::refusals::Refusal;
 
@@ -84,17 +85,6 @@ pub fn pivot(left: &[u32], right: &[u32]) -> Result<u32, Refusal>
     found.ok_or(Refusal::NoClash)
 }
 
-// Copies `from` into `out` at `at`; answers where the copy ends.
-fn copy_at(from: &[u32], out: &mut [u32], at: usize) -> usize
-    requires { at + length from.now ≤ length out.old }
-    ensures end { result ≡ at + length from.now }
-    ensures buffer { out.new ≡ take at out.old ++ from.now ++ drop result out.old }
-{
-    let end = at + from.len();
-    out[at..end].copy_from_slice(from);
-    end
-}
-
 // Writes the literals of both lists that do not clash to the front of `out`, each once; answers how many.
 pub fn merge(left: &[u32], right: &[u32], out: &mut [u32]) -> usize
     requires { length left.now + length right.now ≤ length out.old }
@@ -129,8 +119,7 @@ pub fn join(left: &[u32], right: &[u32], out: &mut [u32]) -> Result<usize, Refus
 }
 
 // States what joining means for clauses: the law is this contract.
-pub fn joining_law() -> u8
+pub fn joining_law()
     ensures { JoiningLaw }
 {
-    0
 }

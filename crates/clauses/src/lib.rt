@@ -1,6 +1,7 @@
 // The vocabulary that every crate shares: literals, clauses, limits and refusals.
 #![tactic(auto)]
 
+pub mod buffers;
 pub mod joining;
 pub mod limits;
 pub mod literals;

@@ -1,6 +1,10 @@
 // Why a call or a line is refused.
-ghost use Rattle.std.specs.Prelude.{◌≡◌};
+ghost use Rattle.std.specs.Prelude.{◌≡◌, Some};
+ghost use Rattle.clauses.specs.declared.refusals.Refusal.TheVariants.{OutOfMemory};
 ghost use Rattle.clauses.specs.Refusals.{number_of, words_of};
+
+use std::alloc::AllocError;
+use std::fmt;
 
 // Each case has a number and words, as `number_of` and `words_of` define them; want of memory has no number.
 #[derive(Clone, Copy, PartialEq, Eq, Debug)]
@@ -110,5 +114,22 @@ impl Refusal {
             Refusal::ShortLine => "short line",
             Refusal::OutOfMemory => "out of memory",
         }
+    }
+}
+
+// Prints the words.
+impl fmt::Display for Refusal {
+    ghost output = { λ r. Some (words_of r) };
+
+    fn fmt<W: fmt::Write>(&self, f: &mut fmt::Formatter<W>) -> fmt::Result {
+        f.write_str(self.words())
+    }
+}
+
+impl From<AllocError> for Refusal {
+    ghost from_gives = { λ _ r. r ≡ OutOfMemory };
+
+    fn from(_e: AllocError) -> Refusal {
+        Refusal::OutOfMemory
     }
 }
