@@ -2,6 +2,7 @@
 #![tactic(auto)]
 
 pub mod buffers;
+pub mod few;
 pub mod joining;
 pub mod limits;
 pub mod literals;
