@@ -25,7 +25,7 @@ impl NodeRecord {
 pub fn known<G: GateKind>(node: &NodeRecord) -> bool
     ensures { result ≡ known G.GateKind.kind (node_of node.now) }
 {
-    node.code < G::code_count() && node.count == G::operand_count(node.code)
+    node.code < G::CODES && node.count == G::operand_count(node.code)
 }
 
 // The value of a signal, counted from 1; of any other, off.
@@ -66,10 +66,9 @@ pub fn evaluate<G: GateKind>(nodes: &[NodeRecord], start: usize, values: &mut [b
     requires { length values.old ≡ start + length nodes.now }
     ensures { values.new ≡ values_of G.GateKind.kind (map node_of nodes.now) (take start values.old) }
 {
-    let mut at = start;
-    for node in nodes {
-        let value = node_value::<G>(node, &values[0..at]);
+    for (i, node) in nodes.iter().enumerate() {
+        let at = start + i;
+        let value = node_value::<G>(node, &values[..at]);
         values[at] = value;
-        at += 1;
     }
 }
