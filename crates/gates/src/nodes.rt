@@ -42,11 +42,7 @@ fn operand_row(node: &NodeRecord, values: &[bool]) -> Few<bool, 8>
 fn node_value<G: GateKind>(node: &NodeRecord, values: &[bool]) -> bool
     ensures { result ≡ node_value G.GateKind.kind (node_of node.now) values.now }
 {
-    if !known::<G>(node) {
-        return false;
-    }
-    let row = operand_row(node, values);
-    G::value(node.code, row.as_slice())
+    known::<G>(node) && G::value(node.code, operand_row(node, values).as_slice())
 }
 
 // Works out all nodes in order: `values` has those of the first signals, `start` of them, and gets those of the nodes behind.

@@ -54,6 +54,27 @@ impl WideFunction {
             WideFunction::Nor => !row.iter().any(|on| *on),
         }
     }
+
+    // The literal at a place of a pattern, on so many operands, before it is inverted.
+    fn plain_literal(self, operands: u8, index: u8, place: u8) -> SlotLiteral
+        requires within { index ≤ operands }
+        requires inside { place < length (slice_index_or (plain_patterns (disjunctive self) operands) index []) }
+        ensures { result ≡ slice_index_or (slice_index_or (plain_patterns (disjunctive self) operands) index []) place past_end }
+    {
+        let any = self.disjunctive();
+        let (slot, negated) = if index < operands {
+            if place == 0 {
+                (Slot::Operand(index), any)
+            } else {
+                (Slot::Output, !any)
+            }
+        } else if place < operands {
+            (Slot::Operand(place), !any)
+        } else {
+            (Slot::Output, any)
+        };
+        SlotLiteral { slot, negated }
+    }
 }
 
 #[derive(Clone, Copy)]
@@ -81,52 +102,21 @@ impl GateKind for Wide {
     }
 
     fn pattern_count(code: u8) -> u8 {
-        code % 8 + 2
+        Self::operand_count(code) + 1
     }
 
     fn pattern_size(code: u8, index: u8) -> u8 {
-        let operands = code % 8 + 1;
+        let operands = Self::operand_count(code);
         if index < operands { 2 } else { operands + 1 }
     }
 
     fn pattern_literal(code: u8, index: u8, place: u8) -> SlotLiteral {
         let function = WideFunction::from(code);
-        let literal = plain_literal(function.disjunctive(), code % 8 + 1, index, place);
+        let literal = function.plain_literal(Self::operand_count(code), index, place);
         if function.inverting() {
             literal.inverted()
         } else {
             literal
-        }
-    }
-}
-
-// The literal at a place of a pattern of 'and', or of 'or' where `any`, of so many operands.
-fn plain_literal(any: bool, operands: u8, index: u8, place: u8) -> SlotLiteral
-    requires within { index ≤ operands }
-    requires inside { place < length (slice_index_or (plain_patterns any operands) index []) }
-    ensures { result ≡ slice_index_or (slice_index_or (plain_patterns any operands) index []) place past_end }
-{
-    if index < operands {
-        if place == 0 {
-            SlotLiteral {
-                slot: Slot::Operand(index),
-                negated: any,
-            }
-        } else {
-            SlotLiteral {
-                slot: Slot::Output,
-                negated: !any,
-            }
-        }
-    } else if place < operands {
-        SlotLiteral {
-            slot: Slot::Operand(place),
-            negated: !any,
-        }
-    } else {
-        SlotLiteral {
-            slot: Slot::Output,
-            negated: any,
         }
     }
 }
