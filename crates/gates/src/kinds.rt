@@ -31,7 +31,9 @@ impl SlotLiteral {
     }
 }
 
-// A kind of gate; whoever adds one shows the two laws.
+// A kind of gate; whoever adds one shows the laws.
+// Codes are numbers here: the check makes no proof of an impl whose functions take a type that has the trait as a bound
+// on the impl's own type, so a type of known codes could stand only above the trait, and would repeat its functions.
 pub trait GateKind {
     // How many operator codes the kind has, counted from 0.
     const CODES: u8;
