@@ -17,12 +17,7 @@ pub fn is_signal(signals: u16, signal: u32) -> bool
 fn are_signals(signals: u16, operands: &[u32]) -> bool
     ensures { result ≡ are_signals signals operands.now }
 {
-    for operand in operands {
-        if !is_signal(signals, *operand) {
-            return false;
-        }
-    }
-    true
+    operands.iter().all(|operand| is_signal(signals, *operand))
 }
 
 // The operands in the width in which a record keeps them.

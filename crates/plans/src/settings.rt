@@ -40,23 +40,18 @@ fn bit_at(setting: &[u8], place: usize) -> bool
 fn unpack(setting: &[u8], values: &mut [bool])
     ensures { values.new ≡ setting_of (length values.old) setting.now }
 {
-    for place in 0..values.len() {
-        values[place] = bit_at(setting, place);
+    for (place, value) in values.iter_mut().enumerate() {
+        *value = bit_at(setting, place);
     }
 }
 
 // How many switches are on: the ones in the bytes.
 fn count_on(switches: u16, setting: &[u8]) -> u16
     requires some { 1 ≤ switches }
-    requires few { switches ≤ 256 }
     requires packed { T (well_packed switches setting.now) }
     ensures { result ≡ count_on (setting_of switches setting.now) }
 {
-    let mut on = 0;
-    for byte in setting {
-        on += byte.count_ones() as u16;
-    }
-    on
+    setting.iter().map(|byte| byte.count_ones() as u16).sum()
 }
 
 // Whether a plan is true under a packed setting.
