@@ -43,6 +43,7 @@ pub fn pattern_demand<G: GateKind>(code: u8) -> Demand
     requires { code < G.GateKind.kind.codes }
     ensures { result ≡ demand_of (G.GateKind.kind.patterns code) }
 {
+    // A loop: of a sum over this range, whose closure asks for a pattern that there is, the proof did not close.
     let mut cells = 0;
     for index in 0..G::pattern_count(code) {
         cells += G::pattern_size(code, index) as u32;
