@@ -2,9 +2,10 @@
 #![tactic(auto)]
 
 pub mod buffers;
+pub mod few;
 pub mod joining;
 pub mod limits;
 pub mod literals;
 pub mod refusals;
 
-pub use refusals::Refusal;
+pub use refusals::{Answer, Refusal};

@@ -34,18 +34,6 @@ with_book d b = record { plan = d.plan; definitions = d.definitions; standing = 
 abbrev pub with_standing : Docket → Standing → Docket
 with_standing d s = record { plan = d.plan; definitions = d.definitions; standing = s; book = d.book }
 
--- a definition more: z is the next unused signal; all patterns of the operator must fit, left-out ones counted too
-abbrev pub define_reasons : Kind → Docket → ℕ → ℕ → List ℕ → List Reason
-define_reasons K d z code operands =
-    if Closed (closed d.standing)
-    ∷ if Operator (nat_le K.codes code)
-    ∷ if OperandCount (not (length operands == K.arity code))
-    ∷ if NoSignal (not (are_signals (in_use d) operands))
-    ∷ if NotNew (not (z == in_use d + 1))
-    ∷ if SignalsSpent (nat_le max_signals (in_use d))
-    ∷ if BookFull (not (has_room d.book (K.patterns code)))
-    ∷ []
-
 -- why an open docket refuses a definition: z is not the next unused signal; all patterns of the operator must fit, left-out ones counted too
 abbrev pub definition_reasons : Kind → Docket → ℕ → ℕ → List ℕ → List Reason
 definition_reasons K d z code operands =
@@ -54,6 +42,10 @@ definition_reasons K d z code operands =
     ∷ if SignalsSpent (nat_le max_signals (in_use d))
     ∷ if BookFull (not (has_room d.book (K.patterns code)))
     ∷ [])
+
+-- a definition more
+abbrev pub define_reasons : Kind → Docket → ℕ → ℕ → List ℕ → List Reason
+define_reasons K d z code operands = if Closed (closed d.standing) ∷ definition_reasons K d z code operands
 
 abbrev pub define_answer : Kind → Docket → ℕ → ℕ → List ℕ → Result ℕ Refusal
 define_answer K d z code operands = unless (define_reasons K d z code operands) z
@@ -118,11 +110,7 @@ setting_reasons K p bytes =
 
 -- shown by a setting that makes the plan true: answers how many switches are on
 abbrev pub show_reasons : Kind → Docket → List ℕ → List Reason
-show_reasons K d bytes =
-    if Closed (closed d.standing)
-    ∷ if Setting (not (well_packed d.plan.switches bytes))
-    ∷ if PlanFalse (not (true_under K d.plan (setting_of d.plan.switches bytes)))
-    ∷ []
+show_reasons K d bytes = if Closed (closed d.standing) ∷ setting_reasons K d.plan bytes
 
 abbrev pub show_answer : Kind → Docket → List ℕ → Result ℕ Refusal
 show_answer K d bytes = unless (show_reasons K d bytes) (count_on (setting_of d.plan.switches bytes))

@@ -55,10 +55,7 @@ abbrev pub gate_reasons : Kind → Plan → ℕ → List ℕ → List Reason
 gate_reasons K p code operands =
     if OutOfPlace (complete p)
     ∷ if Size (nat_le max_gates (length p.gates))
-    ∷ if Operator (nat_le K.codes code)
-    ∷ if OperandCount (not (length operands == K.arity code))
-    ∷ if NoSignal (not (are_signals (signals p) operands))
-    ∷ []
+    ∷ node_reasons K (signals p) code operands
 
 abbrev pub gate_answer : Kind → Plan → ℕ → List ℕ → Result ℕ Refusal
 gate_answer K p code operands = unless (gate_reasons K p code operands) (signals p + 1)

@@ -1,6 +1,8 @@
 // How a docket stands.
-ghost use Rattle.std.specs.Prelude.{◌≡◌};
+ghost use Rattle.std.specs.Prelude.{◌≡◌, Some};
 ghost use Rattle.model.specs.Standings.{standing_words};
+
+use std::fmt;
 
 // A docket is open until a settle or a show is granted; `Runs` has how many switches are on in the setting shown.
 #[derive(Clone, Copy)]
@@ -20,5 +22,14 @@ impl Standing {
             Standing::CannotRun => "cannot run",
             Standing::Runs(_) => "runs",
         }
+    }
+}
+
+// Prints the words.
+impl fmt::Display for Standing {
+    ghost output = { λ s. Some (standing_words s) };
+
+    fn fmt<W: fmt::Write>(&self, f: &mut fmt::Formatter<W>) -> fmt::Result {
+        f.write_str(self.words())
     }
 }
