@@ -1,11 +1,12 @@
 -- The ones in the bytes of a setting are its switches that are on.
-use Rattle.std.proofs.Common.{◌≡◌, ℕ, zero, suc, ◌+◌, ◌-◌, ◌*◌, ◌/◌, ◌%◌, ◌^◌, ◌<◌, ◌≤◌, Bool, true, false, T, eqb, List, [], ◌∷◌, ◌++◌, map, length, get_or, sym, refl, ap, ◌∙◌, ap₂, div-one, arith}
+use Rattle.std.proofs.Common.{◌≡◌, ℕ, zero, suc, ◌+◌, ◌-◌, ◌*◌, ◌/◌, ◌%◌, ◌^◌, ◌<◌, ◌≤◌, Bool, true, false, T, eqb, List, [], ◌∷◌, ◌++◌, map, length, get_or, take, sum_by, sym, refl, ap, ◌∙◌, ap₂, div-one, arith, take_all}
 use native.Mathlib.Nat.{zero-div}
 use lib.Count.{ones, ones_step, ones-le}
 use Rattle.std.specs.List.{range_with_len}
 use Rattle.std.proofs.lemmas.Nat.{shr-shr, shr_below}
 use Rattle.std.proofs.lemmas.List.FromFn.{length-map-range_with_len, get_or-map-range_with_len, map-range_with_len_more, fill_by_all}
 use Rattle.std.proofs.lemmas.Bool.{and_parts, eqb-true}
+use Rattle.std.proofs.lemmas.List.Sums.{sum_by_more}
 use Rattle.model.specs.Settings.{bit_at, setting_of, spare_bits, well_packed, count_on}
 
 -- how many of the first n places have a bit that is on
@@ -115,3 +116,18 @@ ones_all n bytes some packed =
     let full = enough_bytes n bytes packed in
     let room : 8 * length bytes ≡ n + spare = omega arith in
     omega (arith, ap (tally f) room, tally_split f n spare, tally_same (λ j. f (n + j)) (λ _. false) spare (spare_off n bytes some packed), tally_off 0 spare)
+
+-- the ones of the first bytes
+ones_front : (bytes : List ℕ) → ((k : ℕ) → get_or bytes k 0 < 256) → (i : ℕ) → i ≤ length bytes → sum_by ones (take i bytes) ≡ count_on (setting_of (8 * i) bytes)
+ones_front bytes small zero h = refl
+ones_front bytes small (suc i) h =
+    let room : suc i ≡ i + 1 = omega arith in
+    let more = sum_by_more ones bytes i 0 (omega arith) in
+    let ih = ones_front bytes small i (omega arith) in
+    let next = ones_more bytes i (small i) in
+    rw room (omega arith)
+
+-- the ones of all bytes
+pub ones_sum : (n : ℕ) (bytes : List ℕ) → 1 ≤ n → T (well_packed n bytes) → ((k : ℕ) → get_or bytes k 0 < 256) → sum_by ones bytes ≡ count_on (setting_of n bytes)
+ones_sum n bytes some packed small =
+    ap (sum_by ones) (sym (take_all (length bytes) bytes (omega arith))) ∙ ones_front bytes small (length bytes) (omega arith) ∙ ones_all n bytes some packed
