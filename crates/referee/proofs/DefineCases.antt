@@ -25,12 +25,12 @@ pub docket_parts : {p q : Plan} {ms ns : List Node} {b e : Book} (s : Standing) 
 docket_parts s plans nodes books = cc
 
 -- a step that is taken finds the docket open, and leaves it as it was
-pub step_taken : (d e : Docket) (x : ℕ) → ◌≡◌ {A = Result ℕ Refusal} (Ok x) (event_answer d.standing Step) → e ≡ with_standing d Open → (e ≡ d) × (closed d.standing ≡ false)
+pub step_taken : (d e : Docket) (x : ℕ) → ◌≡◌ {A = Result ℕ Refusal} (Ok x) (event_answer d.standing (Ok Step)) → e ≡ with_standing d Open → (e ≡ d) × (closed d.standing ≡ false)
 step_taken d e x taken after =
     let is : d.standing ≡ Open = go d.standing taken in
     (after ∙ ap (with_standing d) (sym is), ap closed is)
   where
-    go : (s : Standing) → ◌≡◌ {A = Result ℕ Refusal} (Ok x) (event_answer s Step) → s ≡ Open
+    go : (s : Standing) → ◌≡◌ {A = Result ℕ Refusal} (Ok x) (event_answer s (Ok Step)) → s ≡ Open
     go Open q = refl
     go CannotRun q = let z : ◌≡◌ {A = ℕ} 0 1 = cc in absurd (omega arith)
     go (Runs k) q = let z : ◌≡◌ {A = ℕ} 0 1 = cc in absurd (omega arith)

@@ -17,10 +17,10 @@ settle_answers Open (Some (l ∷ ls)) = refl
 settle_answers CannotRun o = refl
 settle_answers (Runs k) o = refl
 
-pub settle_refused : (s : Standing) (o : Option (List ℕ)) (v : Event) (e : Refusal) → v ≡ settle_event o → ◌≡◌ {A = Result ℕ Refusal} (Err e) (event_answer s v) → ◌≡◌ {A = Result ℕ Refusal} (Err e) (cond (closed s) (Err Closed) (settle_found o))
+pub settle_refused : (s : Standing) (o : Option (List ℕ)) (v : Result Event Refusal) (e : Refusal) → v ≡ settle_event o → ◌≡◌ {A = Result ℕ Refusal} (Err e) (event_answer s v) → ◌≡◌ {A = Result ℕ Refusal} (Err e) (cond (closed s) (Err Closed) (settle_found o))
 settle_refused s o v e is h = let all = settle_answers s o in cc
 
-pub settle_granted : (s : Standing) (o : Option (List ℕ)) (v : Event) (x : ℕ) → v ≡ settle_event o → ◌≡◌ {A = Result ℕ Refusal} (Ok x) (event_answer s v) → (◌≡◌ {A = Result ℕ Refusal} (Ok 0) (cond (closed s) (Err Closed) (settle_found o))) × (stands_after v ≡ CannotRun)
+pub settle_granted : (s : Standing) (o : Option (List ℕ)) (v : Result Event Refusal) (x : ℕ) → v ≡ settle_event o → ◌≡◌ {A = Result ℕ Refusal} (Ok x) (event_answer s v) → (◌≡◌ {A = Result ℕ Refusal} (Ok 0) (cond (closed s) (Err Closed) (settle_found o))) × (stands_after v ≡ CannotRun)
 settle_granted s o v x is h = let f : ◌≡◌ {A = Result ℕ Refusal} (Ok x) (event_answer s (settle_event o)) = rw is at h in let t = go s o f in (t.0, rw is t.1)
   where
     go : (s : Standing) (o : Option (List ℕ)) → ◌≡◌ {A = Result ℕ Refusal} (Ok x) (event_answer s (settle_event o)) → (◌≡◌ {A = Result ℕ Refusal} (Ok 0) (cond (closed s) (Err Closed) (settle_found o))) × (stands_after (settle_event o) ≡ CannotRun)

@@ -6,4 +6,4 @@ use Rattle.referee.proofs.DefineCases.{docket_parts}
 use Rattle.referee.proofs.dockets.Docket.open.Goals as goal
 
 pub returns : goal.returns
-returns g c = (sym c.in_default.ensures, docket_parts Open c.in-Ok.ensures (ap (map node_of) c.in-Ok-with_capacity.ensures.items) c.write_plan.ensures)
+returns g c = (sym c.in_default.ensures, docket_parts Open c.in-Ok.ensures.0 (ap (map node_of) c.in-Ok.ensures.1) c.write_plan.ensures)
