@@ -43,9 +43,6 @@ has_room_fewer b ps cs fewer less room =
     rw (le-leb (length cs) (free_numbers b) (omega arith), le-leb (literal_count cs) (free_cells b) (omega arith))
 
 module _ (K : Kind) (d : Docket) (z code : ℕ) (operands : List ℕ) where
-  pub define_refused : closed d.standing ≡ false → (e : Refusal) → Err e ≡ definition_answer K d z code operands → Err e ≡ define_answer K d z code operands
-  define_refused opens e h = rw opens (sym (refused_alike (definition_reasons K d z code operands) (node code operands) z e (sym h)))
-
   pub define_granted : closed d.standing ≡ false → (made : Node) → Ok made ≡ definition_answer K d z code operands → Ok z ≡ define_answer K d z code operands
   define_granted opens made h = rw opens (sym (answered_alike (definition_reasons K d z code operands) (node code operands) made z (sym h)))
 
@@ -53,11 +50,6 @@ module _ (K : Kind) (d : Docket) (z code : ℕ) (operands : List ℕ) where
   module _ (made : Node) (h : Ok made ≡ definition_answer K d z code operands) where
     pub checked_definition : made ≡ node code operands
     checked_definition = sym (none_hold (definition_reasons K d z code operands) (node code operands) made (sym h)).1
-
-    pub signals_left : in_use d < max_signals
-    signals_left =
-        let (coded, (counted, (there, (new, (left, more))))) = (none_hold (definition_reasons K d z code operands) (node code operands) made (sym h)).0 in
-        leb-false max_signals (in_use d) left
 
     pub room_for_definition : T (has_room d.book (clauses_of K z made))
     room_for_definition =

@@ -20,16 +20,6 @@ settle_answers (Runs k) o = refl
 pub settle_refused : (s : Standing) (o : Option (List ℕ)) (v : Result Event Refusal) (e : Refusal) → v ≡ settle_event o → ◌≡◌ {A = Result ℕ Refusal} (Err e) (event_answer s v) → ◌≡◌ {A = Result ℕ Refusal} (Err e) (cond (closed s) (Err Closed) (settle_found o))
 settle_refused s o v e is h = let all = settle_answers s o in cc
 
-pub settle_granted : (s : Standing) (o : Option (List ℕ)) (v : Result Event Refusal) (x : ℕ) → v ≡ settle_event o → ◌≡◌ {A = Result ℕ Refusal} (Ok x) (event_answer s v) → (◌≡◌ {A = Result ℕ Refusal} (Ok 0) (cond (closed s) (Err Closed) (settle_found o))) × (stands_after v ≡ CannotRun)
-settle_granted s o v x is h = let f : ◌≡◌ {A = Result ℕ Refusal} (Ok x) (event_answer s (settle_event o)) = rw is at h in let t = go s o f in (t.0, rw is t.1)
-  where
-    go : (s : Standing) (o : Option (List ℕ)) → ◌≡◌ {A = Result ℕ Refusal} (Ok x) (event_answer s (settle_event o)) → (◌≡◌ {A = Result ℕ Refusal} (Ok 0) (cond (closed s) (Err Closed) (settle_found o))) × (stands_after (settle_event o) ≡ CannotRun)
-    go Open None f = let z : ◌≡◌ {A = ℕ} 0 1 = cc in absurd (omega arith)
-    go Open (Some []) f = (refl, refl)
-    go Open (Some (l ∷ ls)) f = let z : ◌≡◌ {A = ℕ} 0 1 = cc in absurd (omega arith)
-    go CannotRun o f = let z : ◌≡◌ {A = ℕ} 0 1 = cc in absurd (omega arith)
-    go (Runs k) o f = let z : ◌≡◌ {A = ℕ} 0 1 = cc in absurd (omega arith)
-
 -- what the event of a setting answers, and what the docket stands at where it is granted
 module _ {D : Type 0} (stands : Standing → D) (d : D) where
   pub shown : (s : Standing) (r : Result ℕ Refusal) (on : ℕ) → ((x : ℕ) → r ≡ Ok x → x ≡ on) → granted (event_answer s (show_event r)) (stands (stands_after (show_event r))) d ≡ granted (event_answer s (show_event r)) (stands (Runs on)) d
