@@ -3,7 +3,6 @@ ghost use Rattle.std.specs.Prelude.{◌≡◌, ◌≤◌, [], MatchResult, vec_l
 ghost use Rattle.clauses.specs.declared.refusals.Refusal.TheVariants.{OutOfMemory};
 ghost use Rattle.clauses.specs.Limits.{max_signals};
 ghost use Rattle.model.specs.Dockets.{open_answer};
-ghost use Rattle.plans.specs.PlanStates.{plan_of};
 ghost use Rattle.referee.specs.DocketStates.{OpenGives};
 
 use super::Docket;
@@ -19,7 +18,7 @@ use std::alloc::Global;
 
 // Whether the plan is complete, the book empty, and there is room for the plan's clauses.
 fn may_open<G: GateKind, B: ClauseBook>(plan: &Plan<G>, book: &B) -> Result<(), Refusal>
-    ensures { result ≡ open_answer G.GateKind.kind (plan_of plan.now) (B.ClauseBook.meaning book.now) }
+    ensures { result ≡ open_answer G.GateKind.kind plan.now (B.ClauseBook.meaning book.now) }
 {
     if !plan.is_complete() {
         return Err(Refusal::OutOfPlace);
@@ -36,7 +35,7 @@ fn may_open<G: GateKind, B: ClauseBook>(plan: &Plan<G>, book: &B) -> Result<(), 
 // The memory of a docket: a copy of the plan, and room for all definitions.
 fn memory<G: GateKind>(heap: Global, plan: &Plan<G>) -> Result<(Plan<G>, Vec<NodeRecord>), Refusal>
     ensures { MatchResult result
-        (λ parts. (plan_of parts.0 ≡ plan_of plan.now) × (parts.1.items ≡ []) × (vec_len parts.1 ≡ 0) × (max_signals ≤ vec_capacity parts.1))
+        (λ parts. (parts.0 ≡ plan.now) × (parts.1.items ≡ []) × (vec_len parts.1 ≡ 0) × (max_signals ≤ vec_capacity parts.1))
         (λ e. e ≡ OutOfMemory) }
 {
     let kept = plan.copied(heap)?;
@@ -47,7 +46,7 @@ fn memory<G: GateKind>(heap: Global, plan: &Plan<G>) -> Result<(Plan<G>, Vec<Nod
 impl<G: GateKind, B: ClauseBook> Docket<G, B> {
     // Writes the plan's clauses into the book; refused, the book comes back as it was.
     pub fn open(heap: Global, plan: &Plan<G>, mut book: B) -> Result<Docket<G, B>, (Refusal, B)>
-        ensures { OpenGives G.GateKind.kind B.ClauseBook.meaning (plan_of plan.now) book result }
+        ensures { OpenGives G.GateKind.kind B.ClauseBook.meaning plan.now book result }
     {
         if let Err(refusal) = may_open(plan, &book) {
             return Err((refusal, book));

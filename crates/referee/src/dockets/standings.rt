@@ -4,7 +4,6 @@ ghost use Rattle.books.specs.Promise.{granted};
 ghost use Rattle.model.specs.Calls.{with_standing};
 ghost use Rattle.books.specs.Book.{clause_at};
 ghost use Rattle.referee.specs.Events.{event_answer, stands_after, settle_event, show_event};
-ghost use Rattle.plans.specs.PlanStates.{plan_of};
 ghost use Rattle.plans.specs.Showings.{setting_answer};
 ghost use Rattle.referee.specs.DocketStates.{state_of};
 
@@ -28,7 +27,7 @@ pub(crate) fn settling<B: ClauseBook>(book: &B, number: u32) -> Result<Event, Re
 
 // What showing a setting comes to.
 pub(crate) fn showing<G: GateKind>(plan: &Plan<G>, setting: &[u8]) -> Result<Event, Refusal>
-    ensures { result ≡ show_event (setting_answer G.GateKind.kind (plan_of plan.now) setting.now) }
+    ensures { result ≡ show_event (setting_answer G.GateKind.kind plan.now setting.now) }
 {
     shown::<G>(plan, setting).map(Event::Shown)
 }

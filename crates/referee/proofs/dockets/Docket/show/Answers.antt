@@ -6,7 +6,6 @@ use Rattle.model.specs.Calls.{setting_reasons, with_standing}
 use Rattle.model.proofs.Reasons.{none_hold}
 use Rattle.referee.specs.Events.{event_answer, stands_after, show_event}
 use Rattle.plans.specs.Showings.{setting_answer}
-use Rattle.plans.specs.PlanStates.{plan_of}
 use Rattle.referee.specs.DocketStates.{state_of}
 use Rattle.referee.proofs.EventCases.{show_answers, shown}
 use Rattle.referee.proofs.dockets.Docket.show.Goals as goal
@@ -15,7 +14,7 @@ pub returns : goal.returns
 returns g c =
     let K = g.G.GateKind.kind in
     let old = c.args.self.now in
-    let p = plan_of old.plan in
+    let p = old.plan in
     let bytes = c.args.setting.now in
     let d = state_of g.B.ClauseBook.meaning old in
     let on = count_on (setting_of p.switches bytes) in

@@ -5,17 +5,16 @@ use Rattle.books.specs.Book.{given}
 use Rattle.model.specs.Plans.{complete, plan_clauses}
 use Rattle.model.specs.Dockets.{has_room}
 use Rattle.plans.specs.Demands.{fits_in}
-use Rattle.plans.specs.PlanStates.{plan_of}
 use Rattle.referee.proofs.dockets.opening.may_open.Goals as goal
 
 pub returns-then-not-is_complete : goal.returns-then-not-is_complete
 returns-then-not-is_complete g c =
-    let growing : complete (plan_of c.args.plan.now) ≡ false = cc in
+    let growing : complete c.args.plan.now ≡ false = cc in
     simp growing
 
 pub returns-then-given-ne0 : goal.returns-then-given-ne0
 returns-then-given-ne0 g c =
-    let done : complete (plan_of c.args.plan.now) ≡ true = cc in
+    let done : complete c.args.plan.now ≡ true = cc in
     let b = g.B.ClauseBook.meaning c.args.book.now in
     let used : eqb (given b) 0 ≡ false = ne_eqb (given b) 0 (λ e. c.if-given-ne0.true (c.given.ensures ∙ e)) in
     simp (done, used)
@@ -23,7 +22,7 @@ returns-then-given-ne0 g c =
 pub returns-then-not-fits_in : goal.returns-then-not-fits_in
 returns-then-not-fits_in g c =
     let K = g.G.GateKind.kind in
-    let p = plan_of c.args.plan.now in
+    let p = c.args.plan.now in
     let b = g.B.ClauseBook.meaning c.args.book.now in
     let done : complete p ≡ true = cc in
     let unused : eqb (given b) 0 ≡ true = eq-eqb (given b) 0 (sym c.given.ensures ∙ c.if-given-ne0.false) in
@@ -33,7 +32,7 @@ returns-then-not-fits_in g c =
 pub returns : goal.returns
 returns g c =
     let K = g.G.GateKind.kind in
-    let p = plan_of c.args.plan.now in
+    let p = c.args.plan.now in
     let b = g.B.ClauseBook.meaning c.args.book.now in
     let done : complete p ≡ true = cc in
     let unused : eqb (given b) 0 ≡ true = eq-eqb (given b) 0 (sym c.given.ensures ∙ c.if-given-ne0.false) in
