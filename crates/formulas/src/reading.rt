@@ -2,22 +2,21 @@
 ghost use Rattle.std.specs.Prelude.{◌≡◌};
 ghost use Rattle.clauses.specs.Limits.{max_nesting};
 ghost use Rattle.gates.specs.TwoInput.{two_input};
-ghost use Rattle.plans.specs.PlanStates.{plan_of};
 ghost use Rattle.texts.specs.Readers.{rest_of};
 ghost use Rattle.formulas.specs.Reading.{read as read_formula, outcome, then_root, formula_answer, formula_done, formula_plan};
 ghost use Rattle.formulas.specs.Trees.{ReadsExactly};
 
 use crate::parts::{read_close, read_sign, read_switch};
 use clauses::Refusal;
-use clauses::limits::{MAX_NESTING, MAX_TEXT};
+use clauses::limits::{MAX_NESTING, MAX_SWITCHES, MAX_TEXT};
 use gates::{GateKind, TwoInput};
 use plans::Plan;
 use texts::Reader;
 
 // Reads a formula that nests at most `depth` deep into gates of the plan; answers its signal.
 fn read<G: GateKind>(reader: &mut Reader, depth: u8, plan: &mut Plan<G>) -> Result<u32, Refusal>
-    ensures switches { (plan_of plan.new).switches ≡ (plan_of plan.old).switches }
-    ensures reads { outcome result (rest_of reader.new) (plan_of plan.new) ≡ read_formula G.GateKind.kind depth (rest_of reader.old) (plan_of plan.old) }
+    ensures switches { plan.new.switches ≡ plan.old.switches }
+    ensures reads { outcome result (rest_of reader.new) plan.new ≡ read_formula G.GateKind.kind depth (rest_of reader.old) plan.old }
 {
     match reader.peek() {
         Some('-') => {
@@ -45,9 +44,9 @@ fn read<G: GateKind>(reader: &mut Reader, depth: u8, plan: &mut Plan<G>) -> Resu
 
 // Reads a whole text as one formula, whose signal becomes the root.
 fn read_whole<G: GateKind>(text: &[u8], plan: &mut Plan<G>) -> Result<(), Refusal>
-    ensures switches { (plan_of plan.new).switches ≡ (plan_of plan.old).switches }
-    ensures answer { result ≡ formula_done (then_root (read_formula G.GateKind.kind max_nesting text.now (plan_of plan.old))) }
-    ensures granted { plan_of plan.new ≡ formula_plan (then_root (read_formula G.GateKind.kind max_nesting text.now (plan_of plan.old))) (plan_of plan.new) }
+    ensures switches { plan.new.switches ≡ plan.old.switches }
+    ensures answer { result ≡ formula_done (then_root (read_formula G.GateKind.kind max_nesting text.now plan.old)) }
+    ensures granted { plan.new ≡ formula_plan (then_root (read_formula G.GateKind.kind max_nesting text.now plan.old)) plan.new }
 {
     let mut reader = Reader::new(text);
     let signal = read::<G>(&mut reader, MAX_NESTING as u8, plan)?;
@@ -59,8 +58,8 @@ fn read_whole<G: GateKind>(text: &[u8], plan: &mut Plan<G>) -> Result<(), Refusa
 
 // Reads a whole text as one formula; refused, the plan is as it was.
 pub fn formula_of<G: GateKind>(plan: &mut Plan<G>, text: &[u8]) -> Result<(), Refusal>
-    ensures answer { result ≡ formula_done (formula_answer G.GateKind.kind (plan_of plan.old) text.now) }
-    ensures after { plan_of plan.new ≡ formula_plan (formula_answer G.GateKind.kind (plan_of plan.old) text.now) (plan_of plan.old) }
+    ensures answer { result ≡ formula_done (formula_answer G.GateKind.kind plan.old text.now) }
+    ensures after { plan.new ≡ formula_plan (formula_answer G.GateKind.kind plan.old text.now) plan.old }
 {
     if plan.is_complete() || plan.gates().len() != 0 {
         return Err(Refusal::OutOfPlace);
@@ -77,9 +76,10 @@ pub fn formula_of<G: GateKind>(plan: &mut Plan<G>, text: &[u8]) -> Result<(), Re
 
 // The formula call, in place of gates and root.
 pub fn formula(plan: &mut Plan<TwoInput>, text: &[u8]) -> Result<(), Refusal>
-    ensures answer { result ≡ formula_done (formula_answer two_input (plan_of plan.old) text.now) }
-    ensures after { plan_of plan.new ≡ formula_plan (formula_answer two_input (plan_of plan.old) text.now) (plan_of plan.old) }
-    ensures exact { ReadsExactly (plan_of plan.old) text.now result (plan_of plan.new) }
+    ensures answer { result ≡ formula_done (formula_answer two_input plan.old text.now) }
+    ensures after { plan.new ≡ formula_plan (formula_answer two_input plan.old text.now) plan.old }
+    ensures exact { ReadsExactly plan.old text.now result plan.new }
 {
+    prove!(plan.switches() as usize <= MAX_SWITCHES);
     formula_of::<TwoInput>(plan, text)
 }

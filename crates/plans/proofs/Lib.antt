@@ -5,7 +5,6 @@ pub mod CountingOnes
 pub mod Counts
 pub mod GateCases
 pub mod PlanDemand
-pub mod PlanParts
 pub mod PlanWritten
 pub mod Room
 pub mod SameReasons

@@ -3,19 +3,16 @@ use Rattle.std.proofs.Common.{◌≡◌, ℕ, ◌≤◌, false, T, List, [], ◌
 use Rattle.clauses.specs.Literals.{literal_of}
 use Rattle.gates.specs.declared.records.NodeRecord.{NodeRecord}
 use Rattle.gates.specs.Kinds.{Kind}
-use Rattle.gates.specs.declared.kinds.GateKind.{Ghosts}
 use Rattle.gates.specs.Nodes.{node_of}
 use Rattle.books.specs.Book.{Book, free_numbers, free_cells, written}
 use Rattle.model.specs.Dockets.{has_room, all_written}
-use Rattle.model.specs.Plans.{nodes_clauses, root_clauses, plan_clauses}
-use Rattle.plans.specs.declared.plans.Plan.{Plan}
-use Rattle.plans.specs.PlanStates.{plan_of}
+use Rattle.model.specs.Plans.{Plan, nodes_clauses, root_clauses, plan_clauses}
 use Rattle.plans.proofs.Room.{room_one, room_some, room_others, all_written-append}
 
 -- n and gs are what was read of the plan, for which the book b has room
-module _ {G : Type 0} {g : Ghosts G} (K : Kind) (p : Plan G g) (n : ℕ) (gs : List NodeRecord) (n_is : n ≡ p.switches) (gs_are : map node_of gs ≡ (plan_of p).gates) (b : Book) (t : T (has_room b (plan_clauses K (plan_of p)))) where
+module _ (K : Kind) (p : Plan) (n : ℕ) (gs : List NodeRecord) (n_is : n ≡ p.switches) (gs_are : map node_of gs ≡ p.gates) (b : Book) (t : T (has_room b (plan_clauses K p))) where
   abbrev gates : List (List ℕ)
-  gates = nodes_clauses K p.switches (plan_of p).gates
+  gates = nodes_clauses K p.switches p.gates
 
   gates_are : nodes_clauses K n (map node_of gs) ≡ gates
   gates_are = ap₂ (nodes_clauses K) n_is gs_are
@@ -35,7 +32,7 @@ module _ {G : Type 0} {g : Ghosts G} (K : Kind) (p : Plan G g) (n : ℕ) (gs : L
       pub room_for_root : (1 ≤ free_numbers after) × (1 ≤ free_cells after)
       room_for_root = let (number, cells, more) = room_one after (literal_of r false ∷ []) [] room_left in (number, cells)
 
-      pub with_root_written : (l : ℕ) → l ≡ literal_of r false → (new : Book) → new ≡ written after (l ∷ []) → new ≡ all_written b (plan_clauses K (plan_of p))
+      pub with_root_written : (l : ℕ) → l ≡ literal_of r false → (new : Book) → new ≡ written after (l ∷ []) → new ≡ all_written b (plan_clauses K p)
       with_root_written l l_is new is =
           is
           ∙ ap (λ (k : ℕ). written after (k ∷ [])) l_is

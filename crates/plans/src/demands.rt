@@ -4,7 +4,6 @@ ghost use Rattle.gates.specs.Nodes.{node_of};
 ghost use Rattle.gates.specs.GateClauses.{clauses_of};
 ghost use Rattle.model.specs.Plans.{nodes_clauses, plan_clauses};
 ghost use Rattle.plans.specs.Demands.{demand_of, fits_in};
-ghost use Rattle.plans.specs.PlanStates.{plan_of};
 
 use crate::plans::Plan;
 use books::ClauseBook;
@@ -79,7 +78,7 @@ fn nodes_demand<G: GateKind>(nodes: &[NodeRecord], before: u16) -> Demand
 
 // What the clauses of a plan need.
 pub fn plan_demand<G: GateKind>(plan: &Plan<G>) -> Demand
-    ensures { result ≡ demand_of (plan_clauses G.GateKind.kind (plan_of plan.now)) }
+    ensures { result ≡ demand_of (plan_clauses G.GateKind.kind plan.now) }
 {
     let mut demand = nodes_demand::<G>(plan.gates(), plan.switches());
     if plan.is_complete() {

@@ -2,7 +2,6 @@
 ghost use Rattle.std.specs.Prelude.{◌≡◌, ◌≤◌, T, length};
 ghost use Rattle.model.specs.Plans.{true_under};
 ghost use Rattle.model.specs.Settings.{bit_at, setting_of, well_packed, count_on};
-ghost use Rattle.plans.specs.PlanStates.{plan_of};
 ghost use Rattle.plans.specs.Showings.{setting_answer};
 
 use crate::plans::Plan;
@@ -62,7 +61,7 @@ fn count_on(switches: u16, setting: &[u8]) -> u16
 
 // Whether a plan is true under a packed setting.
 fn true_under<G: GateKind>(plan: &Plan<G>, setting: &[u8]) -> bool
-    ensures { result ≡ true_under G.GateKind.kind (plan_of plan.now) (setting_of (plan_of plan.now).switches setting.now) }
+    ensures { result ≡ true_under G.GateKind.kind plan.now (setting_of plan.now.switches setting.now) }
 {
     let Some(root) = plan.root_signal() else {
         return false;
@@ -77,7 +76,7 @@ fn true_under<G: GateKind>(plan: &Plan<G>, setting: &[u8]) -> bool
 
 // How many switches are on in a setting that makes the plan true.
 pub fn shown<G: GateKind>(plan: &Plan<G>, setting: &[u8]) -> Result<u16, Refusal>
-    ensures { result ≡ setting_answer G.GateKind.kind (plan_of plan.now) setting.now }
+    ensures { result ≡ setting_answer G.GateKind.kind plan.now setting.now }
 {
     if !well_packed(plan.switches(), setting) {
         return Err(Refusal::Setting);

@@ -5,7 +5,6 @@ ghost use Rattle.gates.specs.Nodes.{node_of};
 ghost use Rattle.gates.specs.GateClauses.{clauses_of};
 ghost use Rattle.model.specs.Plans.{nodes_clauses, plan_clauses};
 ghost use Rattle.model.specs.Dockets.{has_room, all_written};
-ghost use Rattle.plans.specs.PlanStates.{plan_of};
 
 use crate::plans::Plan;
 use books::ClauseBook;
@@ -51,8 +50,8 @@ fn write_nodes<G: GateKind, B: ClauseBook>(book: &mut B, nodes: &[NodeRecord], b
 
 // Writes the clauses of a plan: those of each gate in order, last the root's.
 pub fn write_plan<G: GateKind, B: ClauseBook>(book: &mut B, plan: &Plan<G>)
-    requires { T (has_room (B.ClauseBook.meaning book.old) (plan_clauses G.GateKind.kind (plan_of plan.now))) }
-    ensures { B.ClauseBook.meaning book.new ≡ all_written (B.ClauseBook.meaning book.old) (plan_clauses G.GateKind.kind (plan_of plan.now)) }
+    requires { T (has_room (B.ClauseBook.meaning book.old) (plan_clauses G.GateKind.kind plan.now)) }
+    ensures { B.ClauseBook.meaning book.new ≡ all_written (B.ClauseBook.meaning book.old) (plan_clauses G.GateKind.kind plan.now) }
 {
     write_nodes::<G, B>(book, plan.gates(), plan.switches());
     if let Some(root) = plan.root_signal() {

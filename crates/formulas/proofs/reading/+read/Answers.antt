@@ -1,7 +1,6 @@
 -- Each way through the code is an equation of the definition.
 use Rattle.std.proofs.Common.{◌≡◌, Some, sym, refl, ◌∙◌, arith, rules}
 use Rattle.std.proofs.lemmas.Result.{err_from_is_err_and}
-use Rattle.plans.specs.PlanStates.{plan_of}
 use Rattle.texts.specs.Characters.{first}
 use Rattle.texts.specs.Readers.{rest_of}
 use Rattle.formulas.proofs.ReadingSteps.{gate_outcome, gate_switches, deep_not, deep_open, read_else, not_fault, not_read, left_fault, no_sign, right_fault, no_close, join_read}
@@ -28,7 +27,7 @@ returns-in_err-inner-in-Some-eq45 g t c =
 pub returns-in_ok-inner-in-Some-eq45 : goal.returns-in_ok-inner-in-Some-eq45
 returns-in_ok-inner-in-Some-eq45 g t c =
     let f : Some 45 ≡ first (rest_of c.args.reader.now) = search rules in
-    let q = plan_of c.read.new.plan in
+    let q = c.read.new.plan in
     record {
       switches = gate_switches c.gate.result q _ _ _ c.gate.ensures.after ∙ c.read.ensures.switches;
       reads =
@@ -88,7 +87,7 @@ returns-in_err-read_close-in-Some-eq40 g t c =
 pub returns-in_ok-read_close-in-Some-eq40 : goal.returns-in_ok-read_close-in-Some-eq40
 returns-in_ok-read_close-in-Some-eq40 g t c =
     let f : Some 40 ≡ first (rest_of c.args.reader.now) = search rules in
-    let q = plan_of c.read-in-Some-eq40-2.new.plan in
+    let q = c.read-in-Some-eq40-2.new.plan in
     record {
       switches = gate_switches c.gate-in-Some-eq40.result q _ _ _ c.gate-in-Some-eq40.ensures.after ∙ (c.read-in-Some-eq40-2.ensures.switches ∙ c.read-in-Some-eq40.ensures.switches);
       reads =
@@ -102,5 +101,5 @@ returns-in_default g t c =
     let o : Some 40 ≡ first (rest_of c.args.reader.now) → ⊥ = λ e. elim c.in_default.branch [ in_default-via-in-Some+in_default w ↦ grind arith | in_default-via-in_default w ↦ grind arith ] in
     record {
       switches = refl;
-      reads = c.read_switch.ensures (plan_of c.args.plan.now) (sym c.switches.ensures) ∙ read_else g.G.GateKind.kind _ _ _ m o;
+      reads = c.read_switch.ensures c.args.plan.now (sym c.switches.ensures.switches) ∙ read_else g.G.GateKind.kind _ _ _ m o;
     }
