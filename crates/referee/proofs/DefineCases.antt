@@ -1,8 +1,7 @@
 -- What an open docket answers to a definition is what the check of its record says; a checked one has room.
-use Rattle.std.proofs.Common.{◌≡◌, ℕ, ◌<◌, ◌≤◌, true, false, T, leb, List, length, Ok, Err, Result, sym, refl, ap, ◌∙◌, arith}
-use Rattle.std.proofs.lemmas.Bool.{and_parts, leb-true, leb-false, le-leb, not-false}
+use Rattle.std.proofs.Common.{◌≡◌, ℕ, ◌≤◌, true, false, T, leb, List, length, Ok, Result, sym, refl, ap, ◌∙◌, arith}
+use Rattle.std.proofs.lemmas.Bool.{and_parts, leb-true, le-leb, not-false}
 use Rattle.clauses.specs.declared.refusals.Refusal.{Refusal}
-use Rattle.clauses.specs.Limits.{max_signals}
 use Rattle.gates.specs.Kinds.{Kind}
 use Rattle.gates.specs.Nodes.{Node}
 use Rattle.gates.specs.GateClauses.{clauses_of}
@@ -11,14 +10,13 @@ use Rattle.model.specs.declared.standing.Standing.{Standing}
 use Rattle.model.specs.declared.standing.Standing.TheVariants.{Open, CannotRun, Runs}
 use Rattle.model.specs.Standings.{closed}
 use Rattle.model.specs.Plans.{Plan, node}
-use Rattle.model.specs.Dockets.{Docket, in_use, has_room, literal_count}
-use Rattle.model.specs.Calls.{definition_reasons, define_answer, with_standing}
+use Rattle.model.specs.Dockets.{Docket, has_room, literal_count}
+use Rattle.model.specs.Calls.{definition_reasons, with_standing}
 use Rattle.model.proofs.Reasons.{none_hold}
 use Rattle.referee.specs.declared.dockets.Event.TheVariants.{Step}
 use Rattle.referee.specs.Events.{event_answer}
 use Rattle.referee.specs.DocketStates.{definition_answer}
 use Rattle.plans.proofs.Counts.{within_patterns}
-use Rattle.plans.proofs.SameReasons.{refused_alike, answered_alike}
 
 -- dockets of the same parts are the same
 pub docket_parts : {p q : Plan} {ms ns : List Node} {b e : Book} (s : Standing) → p ≡ q → ms ≡ ns → b ≡ e → ◌≡◌ {A = Docket} (record { plan = p; definitions = ms; standing = s; book = b }) (record { plan = q; definitions = ns; standing = s; book = e })
@@ -43,9 +41,6 @@ has_room_fewer b ps cs fewer less room =
     rw (le-leb (length cs) (free_numbers b) (omega arith), le-leb (literal_count cs) (free_cells b) (omega arith))
 
 module _ (K : Kind) (d : Docket) (z code : ℕ) (operands : List ℕ) where
-  pub define_granted : closed d.standing ≡ false → (made : Node) → Ok made ≡ definition_answer K d z code operands → Ok z ≡ define_answer K d z code operands
-  define_granted opens made h = rw opens (sym (answered_alike (definition_reasons K d z code operands) (node code operands) made z (sym h)))
-
   -- the definition that was checked
   module _ (made : Node) (h : Ok made ≡ definition_answer K d z code operands) where
     pub checked_definition : made ≡ node code operands

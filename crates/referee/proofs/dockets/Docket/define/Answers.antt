@@ -1,14 +1,12 @@
 -- The step leaves an open docket as it was; then the definition was checked against it.
-use Rattle.std.proofs.Common.{◌≡◌, Ok, Err, vec_items, refl, ap, ◌∙◌, subst, arith}
-use lib.ListN.{length-map}
-use Rattle.std.proofs.lemmas.Result.{err_from_is_err_and}
+use Rattle.std.proofs.Common.{◌≡◌, Ok, vec_items, refl, ap, ◌∙◌, subst}
 use Rattle.gates.specs.Nodes.{node_of}
 use Rattle.gates.specs.GateClauses.{clauses_of}
 use Rattle.model.specs.Plans.{node}
 use Rattle.model.specs.Dockets.{Docket, all_written}
 use Rattle.model.specs.Calls.{defined}
 use Rattle.referee.specs.DocketStates.{state_of, definition_answer}
-use Rattle.referee.proofs.DefineCases.{docket_parts, step_taken, define_granted, checked_definition, room_for_definition}
+use Rattle.referee.proofs.DefineCases.{docket_parts, step_taken, checked_definition, room_for_definition}
 use Rattle.plans.proofs.GateCases.{one_record_more}
 use Rattle.referee.proofs.dockets.Docket.define.Goals as goal
 
@@ -18,11 +16,10 @@ write_node-requires g c =
     let new = state_of g.B.ClauseBook.meaning c.meet.new.self in
     room_for_definition K new c.args.signal c.args.code c.args.operands.now _ c.in_ok-node.ensures
 
-pub returns : goal.returns
-returns g c =
+pub returns-clause-after : goal.returns-clause-after
+returns-clause-after g c =
     let K = g.G.GateKind.kind in
     let z = c.args.signal in
-    let n = node c.args.code c.args.operands.now in
     let old = state_of g.B.ClauseBook.meaning c.args.self.now in
     let new = state_of g.B.ClauseBook.meaning c.meet.new.self in
     let kept = step_taken old new _ c.in_ok-meet.ensures.answer c.in_ok-meet.ensures.after in
@@ -30,7 +27,4 @@ returns g c =
     let made = checked_definition K old z c.args.code c.args.operands.now _ checked in
     let nodes = one_record_more (vec_items c.meet.new.self.definitions) _ _ _ c.push_reserved.ensures.items made in
     let books = c.write_node.ensures ∙ ap (λ m. all_written new.book (clauses_of K z m)) made in
-    record {
-      answer = define_granted K old z c.args.code c.args.operands.now kept.1 _ checked;
-      after = docket_parts new.standing refl nodes books ∙ ap (λ (d : Docket). defined K d z n) kept.0;
-    }
+    docket_parts new.standing refl nodes books ∙ ap (λ (d : Docket). defined K d z (node c.args.code c.args.operands.now)) kept.0
