@@ -1,6 +1,7 @@
 // Lines: a letter decides what a line is, and fields parted by single blanks follow it.
 mod fields;
 mod forms;
+mod kinds;
 mod lists;
 mod reading;
 

@@ -1,10 +1,9 @@
 // The parts of a line, from the fields that are left of it.
 ghost use Rattle.texts.specs.Fields.{fields_behind};
 ghost use Rattle.texts.specs.LineParts.{Answers, LoneField, LoneNumber, NextNumber, NoMore};
-ghost use Rattle.texts.specs.Lines.{kind_of, letter_of};
+ghost use Rattle.texts.specs.Lines.{letter_of};
 ghost use Rattle.texts.specs.Readers.{rest_of};
 
-use super::PlanKind;
 use crate::{Reader, number};
 use clauses::Refusal;
 
@@ -14,17 +13,6 @@ pub fn field_letter(field: &[u8]) -> Result<char, Refusal>
 {
     match field {
         [letter] => Ok(*letter as char),
-        _ => Err(Refusal::BadLine),
-    }
-}
-
-// The kind of a plan by its letter.
-pub fn field_kind(field: &[u8]) -> Result<PlanKind, Refusal>
-    ensures { Answers result (kind_of (letter_of field.now)) }
-{
-    match field_letter(field)? {
-        't' => Ok(PlanKind::TwoInput),
-        'w' => Ok(PlanKind::Wide),
         _ => Err(Refusal::BadLine),
     }
 }
