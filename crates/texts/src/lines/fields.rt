@@ -40,6 +40,7 @@ pub fn lone_field<'a>(reader: &mut Reader<'a>) -> Result<&'a [u8], Refusal>
 }
 
 // The number that the next field spells.
+#[tactic(auto, using(crate::proofs::LineNumbers::next_number))]
 pub fn next_number(reader: &mut Reader<'_>) -> Result<u32, Refusal>
     ensures { NextNumber result (fields_behind (rest_of reader.old)) (fields_behind (rest_of reader.new)) }
 {
@@ -48,6 +49,7 @@ pub fn next_number(reader: &mut Reader<'_>) -> Result<u32, Refusal>
 }
 
 // The number that the one field spells which is left.
+#[tactic(auto, using(crate::proofs::LineNumbers::not_lone))]
 pub fn lone_number(reader: &mut Reader<'_>) -> Result<u32, Refusal>
     ensures { LoneNumber result (fields_behind (rest_of reader.old)) }
 {
