@@ -11,15 +11,6 @@ use Rattle.texts.specs.declared.reader.Field.{Field}
 use Rattle.texts.specs.Fields.{HandsField}
 use Rattle.texts.proofs.LineNumbers.{numbers_ok}
 
--- a field that was handed out stood first
-pub handed : (o : Option Field) (f : Field) (fs after : List (List ℕ)) → o ≡ Some f → HandsField o fs after → fs ≡ f.text.now ∷ after
-handed o f fs after e h = rw e at h
-
--- a field of no bytes is none
-pub lone_empty : (f : List ℕ) (fs after : List (List ℕ)) → fs ≡ f ∷ after → after ≡ [] → length f ≡ 0 → lone fs ≡ []
-lone_empty [] fs after h e z = rw (h, e) refl
-lone_empty (b ∷ bs) fs after h e z = absurd (omega arith)
-
 -- a plan wants one number
 pub no_switches : (k : List ℕ) (after : List (List ℕ)) → ((v : ℕ) → numbers after ≡ Ok (v ∷ []) → ⊥) → plan_form (k ∷ after) ≡ Err BadLine
 no_switches k [] none = refl

@@ -33,7 +33,7 @@ pub fn lone_field<'a>(reader: &mut Reader<'a>) -> Result<&'a [u8], Refusal>
 {
     let field = reader.next_field().ok_or(Refusal::BadLine)?;
     no_more(reader)?;
-    if field.text.len() == 0 {
+    if field.text.is_empty() {
         return Err(Refusal::BadLine);
     }
     Ok(field.text)

@@ -1,12 +1,12 @@
-// The lines that more than one number follows, or digits: each function reads what follows the letter.
+// The lines with a field that is no number: the kind of a plan, the digits of a setting.
 ghost use Rattle.std.specs.Prelude.{◌≡◌};
 ghost use Rattle.texts.specs.Fields.{fields_behind};
 ghost use Rattle.texts.specs.Lines.{all_bits, letter_form};
 ghost use Rattle.texts.specs.LineStates.{formed};
 ghost use Rattle.texts.specs.Readers.{rest_of};
 
-use super::fields::{field_letter, lone_field, lone_number, next_number};
-use super::{Line, Operands, PlanKind};
+use super::fields::{field_letter, lone_field, lone_number};
+use super::{Line, PlanKind};
 use crate::Reader;
 use clauses::Refusal;
 
@@ -19,34 +19,6 @@ pub fn plan<'a>(reader: &mut Reader<'a>) -> Result<Line<'a>, Refusal>
     let kind = PlanKind::try_from(field_letter(field.text)?)?;
     let switches = lone_number(reader)?;
     Ok(Line::Plan(kind, switches))
-}
-
-// g code operands
-pub fn gate<'a>(reader: &mut Reader<'a>) -> Result<Line<'a>, Refusal>
-    ensures { formed result ≡ letter_form 103 (fields_behind (rest_of reader.old)) }
-{
-    let code = next_number(reader)?;
-    let operands = Operands::read(reader)?;
-    Ok(Line::Gate(code, operands))
-}
-
-// d signal code operands
-pub fn define<'a>(reader: &mut Reader<'a>) -> Result<Line<'a>, Refusal>
-    ensures { formed result ≡ letter_form 100 (fields_behind (rest_of reader.old)) }
-{
-    let signal = next_number(reader)?;
-    let code = next_number(reader)?;
-    let operands = Operands::read(reader)?;
-    Ok(Line::Define(signal, code, operands))
-}
-
-// u number number
-pub fn resolve<'a>(reader: &mut Reader<'a>) -> Result<Line<'a>, Refusal>
-    ensures { formed result ≡ letter_form 117 (fields_behind (rest_of reader.old)) }
-{
-    let one = next_number(reader)?;
-    let other = lone_number(reader)?;
-    Ok(Line::Resolve(one, other))
 }
 
 // Whether the digits are 0 and 1 alone.

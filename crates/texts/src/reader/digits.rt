@@ -11,7 +11,10 @@ impl<'a> Reader<'a> {
     fn digit_count(&self) -> usize
         ensures { result ≡ prefix_len is_ascii_digit (rest_of self.now) }
     {
-        self.rest().iter().take_while(|byte| byte.is_ascii_digit()).count()
+        self.rest()
+            .iter()
+            .take_while(|byte| byte.is_ascii_digit())
+            .count()
     }
 
     // Goes past the digits that come next, and hands them out.

@@ -40,7 +40,10 @@ impl<'a> Reader<'a> {
     {
         let at = self.at;
         let count = self.find(b' ').unwrap_or(self.rest().len());
-        Field { text: self.take(count), at }
+        Field {
+            text: self.take(count),
+            at,
+        }
     }
 
     // The field behind the next blank, where the reader stands, if one is left.
