@@ -1,18 +1,17 @@
 -- A chained book's fields, and what they say of its meaning.
-use Rattle.std.proofs.Common.{◌≡◌, ℕ, zero, suc, ◌+◌, ◌-◌, ◌<◌, ◌≤◌, Bool, true, false, cond, eqb, ◌≢◌, List, [], ◌∷◌, ◌++◌, length, get_or, set, Some, None, Ok, Err, vec_items, vec_len, Option, Result, sym, refl, ap, ◌∙◌, ap₂, inl, inr, arith}
+use Rattle.std.proofs.Common.{◌≡◌, ℕ, zero, suc, ◌+◌, ◌-◌, ◌≤◌, Bool, true, false, cond, eqb, List, [], ◌∷◌, ◌++◌, length, get_or, set, Some, None, Ok, Err, vec_items, vec_len, Option, Result, sym, refl, ap, ◌∙◌, ap₂, arith}
 use Rattle.std.specs.Option.{option_map, ok_or}
-use Rattle.std.proofs.lemmas.List.{length-map, get_or-map, get_or_past}
-use Rattle.std.proofs.lemmas.Bool.{eqb-false, le-ltb, lt-ltb, cases_lt}
+use Rattle.std.proofs.lemmas.List.{length-map}
+use Rattle.std.proofs.lemmas.Bool.{eqb-false}
 use Rattle.clauses.specs.declared.refusals.Refusal.{Refusal}
 use Rattle.clauses.specs.declared.refusals.Refusal.TheVariants.{NoClause}
 use Rattle.clauses.specs.Limits.{max_literals}
 use Rattle.books.specs.declared.cells.Cell.{Cell}
 use Rattle.books.specs.declared.chained.ChainedBook.{ChainedBook}
 use Rattle.books.specs.Book.{Book, slot_size, given, clause_at, standing_literals, free_numbers, free_cells, written, struck}
-use Rattle.books.specs.Promise.{Sized, literal_answer, max_numbers, max_cells}
-use Rattle.books.specs.Chained.{cells_of, cell_at, chain, ends, literals_in, chained, head_at, Sound, Short, Parted}
+use Rattle.books.specs.Promise.{Sized, max_numbers, max_cells}
+use Rattle.books.specs.Chained.{cells_of, chain, ends, literals_in, chained, head_at, Sound, Short, Parted}
 use Rattle.books.proofs.BookLaws.{clause_at_zero, clause_at_suc}
-use Rattle.books.proofs.ChainedLinks.{chain_at}
 use Rattle.books.proofs.ChainedHeads.{get_or_map_any, front_within, slot_row, cells_shared, Apart, apart, Left, writing, striking}
 use Rattle.books.proofs.BookAnswers.{ok_some, err_none}
 
@@ -100,27 +99,6 @@ pub missing : (b : ChainedBook) (k : ℕ) (r : Refusal) → ◌≡◌ {A = Resul
 missing b k r e =
     let n = err_none (head_at (vec_items b.heads) k) r e in
     (clause_held (cells_of b.table) (vec_items b.heads) b.numbers k ∙ ap (option_map (literals_in (cells_of b.table))) n.0, n.1)
-
--- a literal of a clause, by the cell at its place
-module _ (cs : List Cell) (h p cell : ℕ) (goes : ends cs h ≡ true) (at : cell ≡ get_or (chain cs h) p 0) where
-  pub no_cell : cell ≡ 0 → literal_answer (Some (literals_in cs h)) p ≡ Err NoClause
-  no_cell z = elim (cases_lt p (length (chain cs h))) [
-    | inl lt ↦ absurd (omega (arith, (chain_at cs h p goes lt).0))
-    | inr le ↦ rw (le-ltb p (length (literals_in cs h)) (omega (arith, length-map (chain cs h) (λ i. (cell_at cs i).literal))))
-  ]
-
-  pub some_cell : cell ≢ 0 → (0 < cell) × (cell ≤ length cs) × (literal_answer (Some (literals_in cs h)) p ≡ Ok (cell_at cs cell).literal)
-  some_cell ne = elim (cases_lt p (length (chain cs h))) [
-    | inl lt ↦
-        let c = chain_at cs h p goes lt in
-        let read = get_or-map (λ i. (cell_at cs i).literal) (chain cs h) p 0 0 lt in (
-          omega arith,
-          omega arith,
-          rw (lt-ltb p (length (literals_in cs h)) (omega (arith, length-map (chain cs h) (λ i. (cell_at cs i).literal))))
-              (ap Ok (read ∙ ap (λ i. (cell_at cs i).literal) (sym at))),
-        )
-    | inr le ↦ absurd (ne (at ∙ get_or_past (chain cs h) p 0 le))
-  ]
 
 -- a clause written
 module _ (b : ChainedBook) (c : List ℕ) (ds : List Cell) (hs : List (Option ℕ)) (free : ℕ) where

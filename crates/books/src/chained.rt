@@ -1,5 +1,5 @@
 // A clause book whose clauses are chains of cells: the cells of a struck clause are used again.
-ghost use Rattle.std.specs.Prelude.{◌≡◌, ℕ, ◌≤◌, true, ◌∷◌, ◌++◌, length, Some, vec_len, vec_capacity, slice_index};
+ghost use Rattle.std.specs.Prelude.{◌≡◌, ℕ, ◌≤◌, true, ◌∷◌, ◌++◌, length, Some, vec_len, vec_capacity, slice_get};
 ghost use Rattle.std.specs.Option.{ok_or};
 ghost use Rattle.clauses.specs.declared.refusals.Refusal.TheVariants.{NoClause};
 ghost use Rattle.books.specs.Promise.{Made, Sized, max_numbers, max_cells};
@@ -35,15 +35,9 @@ impl ChainedBook {
         if numbers > MAX_NUMBERS || cells > MAX_CELLS {
             return Err(Refusal::Size);
         }
-        let Ok(table) = CellTable::new(heap, cells) else {
-            return Err(Refusal::OutOfMemory);
-        };
-        let Ok(heads) = Vec::with_capacity(heap, numbers as usize) else {
-            return Err(Refusal::OutOfMemory);
-        };
         Ok(ChainedBook {
-            table,
-            heads,
+            table: CellTable::new(heap, cells)?,
+            heads: Vec::with_capacity(heap, numbers as usize)?,
             free: cells,
             spare: cells,
             numbers,
@@ -131,19 +125,22 @@ fn chain_length(table: &CellTable, first: u32) -> u32
     count
 }
 
-// The cell at a place, from 0, of a chain, and 0 past its end.
-fn nth_cell(table: &CellTable, first: u32, place: u32) -> u32
+// The literal at a place, from 0, of a chain, if it has one.
+fn nth_literal(table: &CellTable, first: u32, place: u32) -> Option<u32>
     requires { ends (cells_of table.now) first ≡ true }
-    ensures { result ≡ slice_index (chain (cells_of table.now) first) place }
+    ensures { result ≡ slice_get (literals_in (cells_of table.now) first) place }
 {
     let mut cell = first;
-    for passed in 0..place {
-        if cell == 0 {
-            return 0;
+    let mut left = place;
+    while cell != 0 {
+        let Cell { literal, next } = table.get(cell);
+        if left == 0 {
+            return Some(literal);
         }
-        cell = table.get(cell).next;
+        left -= 1;
+        cell = next;
     }
-    cell
+    None
 }
 
 impl ClauseBook for ChainedBook {
@@ -172,11 +169,7 @@ impl ClauseBook for ChainedBook {
 
     fn literal(&self, number: u32, place: u32) -> Result<u32, Refusal> {
         let first = self.head(number)?;
-        let cell = nth_cell(&self.table, first, place);
-        if cell == 0 {
-            return Err(Refusal::NoClause);
-        }
-        Ok(self.table.get(cell).literal)
+        nth_literal(&self.table, first, place).ok_or(Refusal::NoClause)
     }
 
     fn strike(&mut self, number: u32) -> Result<(), Refusal> {

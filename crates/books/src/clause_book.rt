@@ -49,8 +49,6 @@ pub trait ClauseBook {
 }
 
 // States what writing and striking do to a book's meaning: the law is this contract.
-pub fn book_law() -> u8
+pub fn book_law()
     ensures { BookLaw }
-{
-    0
-}
+{}

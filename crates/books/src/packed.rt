@@ -32,15 +32,9 @@ impl PackedBook {
         if numbers > MAX_NUMBERS || cells > MAX_CELLS {
             return Err(Refusal::Size);
         }
-        let Ok(literals) = Vec::with_capacity(heap, cells as usize) else {
-            return Err(Refusal::OutOfMemory);
-        };
-        let Ok(spans) = Vec::with_capacity(heap, numbers as usize) else {
-            return Err(Refusal::OutOfMemory);
-        };
         Ok(PackedBook {
-            literals,
-            spans,
+            literals: Vec::with_capacity(heap, cells as usize)?,
+            spans: Vec::with_capacity(heap, numbers as usize)?,
             numbers,
             cells,
         })

@@ -8,8 +8,8 @@ use Rattle.books.proofs.chained.ChainedBook.new.Goals as goal
 
 pub invariant_of-result : goal.invariant_of-result
 invariant_of-result c =
-    let heads = c.in-Ok-with_capacity.ensures in
-    let u = unwritten _ _ c.args.cells c.in-Ok.ensures heads.items in
+    let heads = c.in_ok-with_capacity.ensures in
+    let u = unwritten _ _ c.args.cells c.in_ok-new.ensures heads.items in
     let size = u.size in
     record {
       sound = u.sound;
@@ -21,4 +21,4 @@ invariant_of-result c =
 
 pub returns : goal.returns
 unfolding empty
-returns c = (omega arith, omega arith, rw (c.in-Ok-with_capacity.ensures.items, c.in-Ok.ensures, length-map-range_with_len unused_cell 0 c.args.cells))
+returns c = (omega arith, omega arith, rw (c.in_ok-with_capacity.ensures.items, c.in_ok-new.ensures, length-map-range_with_len unused_cell 0 c.args.cells))

@@ -6,8 +6,8 @@ use Rattle.books.proofs.packed.PackedBook.new.Goals as goal
 
 pub invariant_of-result : goal.invariant_of-result
 invariant_of-result c =
-    let literals = c.in-Ok.ensures in
-    let spans = c.in-Ok-with_capacity.ensures in
+    let literals = c.in_ok-with_capacity.ensures in
+    let spans = c.in_ok-with_capacity-2.ensures in
     let laid = laid_none _ _ literals.items spans.items in
     record {
       laid = laid;
@@ -18,4 +18,4 @@ invariant_of-result c =
 
 pub returns : goal.returns
 unfolding empty
-returns c = (omega arith, omega arith, rw c.in-Ok-with_capacity.ensures.items)
+returns c = (omega arith, omega arith, rw c.in_ok-with_capacity-2.ensures.items)
