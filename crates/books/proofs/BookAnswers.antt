@@ -9,7 +9,7 @@ use Rattle.clauses.specs.declared.refusals.Refusal.{Refusal}
 use Rattle.clauses.specs.declared.refusals.Refusal.TheVariants.{NoClause}
 use Rattle.clauses.specs.Limits.{max_literals}
 use Rattle.books.specs.Book.{Book, given, free_numbers, free_cells}
-use Rattle.books.specs.Promise.{write_answer, literal_answer}
+use Rattle.books.specs.Promise.{write_answer, literal_answer, sizes_answer, max_numbers, max_cells}
 
 -- a short clause for which there is room gets the next number
 pub write_granted : (b : Book) (c : List ℕ) → length c ≤ max_literals → 1 ≤ free_numbers b → length c ≤ free_cells b → write_answer b c ≡ Ok (given b + 1)
@@ -23,6 +23,10 @@ ok_some (Some y) x e = cc
 pub err_none : {X : Type 0} (o : Option X) (r : Refusal) → ◌≡◌ {A = Result X Refusal} (Err r) (ok_or o NoClause) → (o ≡ None) × (r ≡ NoClause)
 err_none None r e = (refl, (cc))
 err_none (Some y) r e = let z : ◌≡◌ {A = ℕ} 0 1 = cc in absurd (omega arith)
+
+-- sizes that were let through
+pub sizes_within : (t l : ℕ) → ◌≡◌ {A = Result (Unit {0}) Refusal} (Ok tt) (sizes_answer t l) → (t ≤ max_numbers) × (l ≤ max_cells)
+sizes_within t l e = grind (arith, nat_tests)
 
 -- a literal that was looked up in a clause that stands
 pub literal_looked_up : (c : List ℕ) (i : ℕ) → ok_or (slice_get c i) NoClause ≡ literal_answer (Some c) i

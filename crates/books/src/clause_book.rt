@@ -1,7 +1,7 @@
 // What every clause book promises: clauses kept under numbers, within two sizes.
 ghost use Rattle.std.specs.Prelude.{◌≡◌};
 ghost use Rattle.books.specs.Book.{Book, given, clause_at, free_numbers, free_cells, written, struck};
-ghost use Rattle.books.specs.Promise.{Sized, granted, write_answer, length_answer, literal_answer, strike_answer};
+ghost use Rattle.books.specs.Promise.{Sized, granted, sizes_answer, write_answer, length_answer, literal_answer, strike_answer};
 ghost use Rattle.books.specs.BookLaw.{BookLaw};
 
 use clauses::Refusal;
@@ -10,6 +10,16 @@ use clauses::Refusal;
 pub const MAX_NUMBERS: u32 = 2048;
 // The standing clauses of a book hold at most this many literals together.
 pub const MAX_CELLS: u32 = 6144;
+
+// Refuses sizes past what a book may have.
+pub fn check_sizes(numbers: u32, cells: u32) -> Result<(), Refusal>
+    ensures { result ≡ sizes_answer numbers cells }
+{
+    if numbers > MAX_NUMBERS || cells > MAX_CELLS {
+        return Err(Refusal::Size);
+    }
+    Ok(())
+}
 
 // A book is known by its meaning; a refused call leaves the meaning as it was.
 pub trait ClauseBook {
