@@ -1,10 +1,10 @@
 // A clause book whose clauses are chains of cells: the cells of a struck clause are used again.
 ghost use Rattle.std.specs.Prelude.{◌≡◌, ℕ, ◌≤◌, true, ◌∷◌, ◌++◌, length, Some, slice_get};
-ghost use Rattle.books.specs.Promise.{Made, Sized, max_cells};
+ghost use Rattle.books.specs.Promise.{Sized, max_cells};
 ghost use Rattle.books.specs.Chained.{cells_of, chain, times, ends, Sound, Short, chained, Parted, literals_in};
 
 use crate::cells::{Cell, CellTable};
-use crate::clause_book::{ClauseBook, check_sizes};
+use crate::clause_book::{ClauseBook, NewBook, check_sizes};
 use crate::numbers::Numbers;
 use clauses::Refusal;
 use clauses::limits::MAX_LITERALS;
@@ -22,21 +22,6 @@ pub struct ChainedBook {
     ghost short: { Short (cells_of table) numbers.slots.items },
     ghost keeps: { (spare ≡ length (chain (cells_of table) free)) × (length (cells_of table) ≤ max_cells) },
     ghost within: { Sized (chained (cells_of table) numbers.slots.items numbers.most) },
-}
-
-impl ChainedBook {
-    // An empty book that gives up to `numbers` numbers and keeps up to `cells` literals.
-    pub fn new(heap: Global, numbers: u32, cells: u32) -> Result<ChainedBook, Refusal>
-        ensures { Made (λ b. chained (cells_of b.table) b.numbers.slots.items b.numbers.most) numbers cells result }
-    {
-        check_sizes(numbers, cells)?;
-        Ok(ChainedBook {
-            table: CellTable::new(heap, cells)?,
-            numbers: Numbers::new(heap, numbers)?,
-            free: cells,
-            spare: cells,
-        })
-    }
 }
 
 // Where two chains begin: that of a new clause, and that of the cells still free.
@@ -174,5 +159,17 @@ impl ClauseBook for ChainedBook {
 
     fn free_cells(&self) -> u32 {
         self.spare
+    }
+}
+
+impl NewBook for ChainedBook {
+    fn new(heap: Global, numbers: u32, cells: u32) -> Result<ChainedBook, Refusal> {
+        check_sizes(numbers, cells)?;
+        Ok(ChainedBook {
+            table: CellTable::new(heap, cells)?,
+            numbers: Numbers::new(heap, numbers)?,
+            free: cells,
+            spare: cells,
+        })
     }
 }

@@ -1,10 +1,11 @@
 // What every clause book promises: clauses kept under numbers, within two sizes.
 ghost use Rattle.std.specs.Prelude.{◌≡◌};
 ghost use Rattle.books.specs.Book.{Book, given, clause_at, free_numbers, free_cells, written, struck};
-ghost use Rattle.books.specs.Promise.{Sized, granted, sizes_answer, write_answer, length_answer, literal_answer, strike_answer};
+ghost use Rattle.books.specs.Promise.{Made, Sized, granted, sizes_answer, write_answer, length_answer, literal_answer, strike_answer};
 ghost use Rattle.books.specs.BookLaw.{BookLaw};
 
 use clauses::Refusal;
+use std::alloc::Global;
 
 // A book gives at most this many numbers.
 pub const MAX_NUMBERS: u32 = 2048;
@@ -56,6 +57,13 @@ pub trait ClauseBook {
         ensures { result ≡ free_cells (meaning self.now) };
 
     ghost sized: { (s : Self) → Sized (meaning s) };
+}
+
+// A book that can be made of two sizes; a book that is made otherwise needs no such instance.
+pub trait NewBook: ClauseBook {
+    // An empty book that gives up to `numbers` numbers and keeps up to `cells` literals.
+    fn new(heap: Global, numbers: u32, cells: u32) -> Result<Self, Refusal>
+        ensures { Made Self.meaning numbers cells result };
 }
 
 // States what writing and striking do to a book's meaning: the law is this contract.

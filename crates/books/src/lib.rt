@@ -10,6 +10,6 @@ pub mod reading;
 pub mod spans;
 
 pub use chained::ChainedBook;
-pub use clause_book::ClauseBook;
+pub use clause_book::{ClauseBook, NewBook};
 pub use packed::PackedBook;
 pub use reading::read_clause;

@@ -1,10 +1,10 @@
 // A clause book that keeps its clauses end to end: a struck clause leaves no gap.
 ghost use Rattle.std.specs.Prelude.{◌≡◌, ℕ, ◌+◌, ◌-◌, ◌<◌, ◌≤◌, ◌++◌, map, length, Some, None, vec_len, vec_capacity, slice_index_or};
 ghost use Rattle.std.specs.Option.{option_map};
-ghost use Rattle.books.specs.Promise.{Made, Sized, max_cells};
+ghost use Rattle.books.specs.Promise.{Sized, max_cells};
 ghost use Rattle.books.specs.Packed.{LaidOut, packed, without, lowered, cleared};
 
-use crate::clause_book::{ClauseBook, check_sizes};
+use crate::clause_book::{ClauseBook, NewBook, check_sizes};
 use crate::numbers::Numbers;
 use crate::spans::Span;
 use clauses::Refusal;
@@ -20,20 +20,6 @@ pub struct PackedBook {
     ghost laid: { LaidOut literals.items numbers.slots.items },
     ghost keeps: { (vec_len literals ≤ cells) × (cells ≤ vec_capacity literals) × (cells ≤ max_cells) },
     ghost within: { Sized (packed literals.items numbers.slots.items numbers.most cells) },
-}
-
-impl PackedBook {
-    // An empty book that gives up to `numbers` numbers and keeps up to `cells` literals.
-    pub fn new(heap: Global, numbers: u32, cells: u32) -> Result<PackedBook, Refusal>
-        ensures { Made (λ b. packed b.literals.items b.numbers.slots.items b.numbers.most b.cells) numbers cells result }
-    {
-        check_sizes(numbers, cells)?;
-        Ok(PackedBook {
-            literals: Vec::with_capacity(heap, cells as usize)?,
-            numbers: Numbers::new(heap, numbers)?,
-            cells,
-        })
-    }
 }
 
 // Adds literals at the end, where the capacity has a place for each.
@@ -134,5 +120,16 @@ impl ClauseBook for PackedBook {
 
     fn free_cells(&self) -> u32 {
         self.cells - self.literals.len() as u32
+    }
+}
+
+impl NewBook for PackedBook {
+    fn new(heap: Global, numbers: u32, cells: u32) -> Result<PackedBook, Refusal> {
+        check_sizes(numbers, cells)?;
+        Ok(PackedBook {
+            literals: Vec::with_capacity(heap, cells as usize)?,
+            numbers: Numbers::new(heap, numbers)?,
+            cells,
+        })
     }
 }

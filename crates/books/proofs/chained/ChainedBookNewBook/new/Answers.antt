@@ -5,7 +5,7 @@ use Rattle.books.specs.Chained.{unused_cell}
 use Rattle.books.proofs.BookAnswers.{sizes_within}
 use Rattle.books.proofs.ChainedHeads.{unwritten}
 use Rattle.books.proofs.ChainedBooks.{chained_sized}
-use Rattle.books.proofs.chained.ChainedBook.new.Goals as goal
+use Rattle.books.proofs.chained.ChainedBookNewBook.new.Goals as goal
 
 pub invariant_of-result : goal.invariant_of-result
 invariant_of-result c =

@@ -3,7 +3,7 @@ use Rattle.books.specs.Book.{empty}
 use Rattle.books.proofs.BookAnswers.{sizes_within}
 use Rattle.books.proofs.PackedLayout.{laid_none}
 use Rattle.books.proofs.PackedBooks.{packed_sized}
-use Rattle.books.proofs.packed.PackedBook.new.Goals as goal
+use Rattle.books.proofs.packed.PackedBookNewBook.new.Goals as goal
 
 pub invariant_of-result : goal.invariant_of-result
 invariant_of-result c =
