@@ -22,18 +22,6 @@ pub struct PackedBook {
     ghost within: { Sized (packed literals.items numbers.slots.items numbers.most cells) },
 }
 
-// Adds literals at the end, where the capacity has a place for each.
-fn append(literals: &mut Vec<u32>, more: &[u32])
-    requires { vec_len literals.old + length more.now ≤ vec_capacity literals.old }
-    ensures items { literals.new.items ≡ literals.old.items ++ more.now }
-    ensures len { vec_len literals.new ≡ vec_len literals.old + length more.now }
-    ensures capacity { vec_capacity literals.new ≡ vec_capacity literals.old }
-{
-    for literal in more {
-        literals.push_reserved(*literal);
-    }
-}
-
 // Takes the literals of a span out, and moves what follows them down.
 fn close_gap(literals: &mut Vec<u32>, gap: Span)
     requires { gap.start + gap.length ≤ vec_len literals.old }
@@ -86,7 +74,7 @@ impl ClauseBook for PackedBook {
             return Err(Refusal::BookFull);
         }
         let start = self.literals.len() as u32;
-        append(&mut self.literals, literals);
+        self.literals.extend_from_slice(literals).unwrap();
         Ok(self.numbers.give(Span { start, length }))
     }
 
