@@ -1,9 +1,8 @@
 -- A chained book: cells that each name the next one, a head for each number, and a chain of the free cells.
-use Rattle.std.specs.Prelude.{◌≡◌, ℕ, zero, suc, ◌+◌, ◌-◌, ◌<◌, ◌≤◌, Bool, true, cond, ◌&&◌, List, [], ◌∷◌, map, length, Some, None, vec_items, sum_by, count_by, Option, ◌==◌, nat_eq, nat_le, slice_index_or, slice_set}
+use Rattle.std.specs.Prelude.{◌≡◌, ℕ, zero, suc, ◌+◌, ◌-◌, ◌<◌, ◌≤◌, Bool, true, cond, ◌&&◌, List, [], ◌∷◌, map, length, Some, None, sum_by, count_by, Option, ◌==◌, nat_eq, nat_le, slice_index_or, slice_set}
 use Rattle.std.specs.List.{range_with_len}
 use Rattle.clauses.specs.Limits.{max_literals}
 use Rattle.books.specs.declared.cells.Cell.{Cell}
-use Rattle.books.specs.declared.cells.CellTable.{CellTable}
 use Rattle.books.specs.Book.{Book}
 use Rattle.books.specs.Numbers.{entered}
 
@@ -14,10 +13,6 @@ unused_cell next = record { literal = 0; next = next }
 -- n unused cells, each of which names the one before it
 abbrev pub unused : ℕ → List Cell
 unused n = map unused_cell (range_with_len 0 n)
-
--- the cells of a table
-abbrev pub cells_of : CellTable → List Cell
-cells_of t = vec_items t.cells
 
 -- the cell under a number; numbers count from 1
 abbrev pub cell_at : List Cell → ℕ → Cell

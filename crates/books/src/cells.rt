@@ -1,8 +1,9 @@
 // The cells that a chained book keeps its literals in.
 ghost use Rattle.std.specs.Prelude.{◌≡◌, ◌<◌, ◌≤◌, length, IfOk};
-ghost use Rattle.books.specs.Chained.{cells_of, cell_at, with_cell, unused};
+ghost use Rattle.books.specs.Chained.{cell_at, with_cell, unused};
 
 use std::alloc::{AllocError, Global};
+use std::marker::Model;
 
 // A literal, and the number of the next cell: 0 at the end of a chain.
 #[derive(Clone, Copy)]
@@ -17,10 +18,20 @@ pub struct CellTable {
     cells: Vec<Cell>,
 }
 
+// Callers see the list of the cells.
+impl Model for CellTable {
+    ghost use Rattle.std.specs.Prelude.{List};
+    ghost use Rattle.books.specs.declared.cells.Cell.{Cell};
+
+    ghost Value = { List Cell };
+
+    ghost view = { λ t. t.cells.items };
+}
+
 impl CellTable {
     // Unused cells, each of which names the one before it.
     pub fn new(heap: Global, count: u32) -> Result<CellTable, AllocError>
-        ensures { IfOk result (λ t. cells_of t ≡ unused count) }
+        ensures { IfOk result (λ t. t ≡ unused count) }
     {
         let mut cells = Vec::with_capacity(heap, count as usize)?;
         for next in 0..count {
@@ -32,8 +43,8 @@ impl CellTable {
     // The cell under a number.
     pub fn get(&self, number: u32) -> Cell
         requires number_nonzero { 0 < number }
-        requires number_in_bounds { number ≤ length (cells_of self.now) }
-        ensures { result ≡ cell_at (cells_of self.now) number }
+        requires number_in_bounds { number ≤ length self.now }
+        ensures { result ≡ cell_at self.now number }
     {
         self.cells[number as usize - 1]
     }
@@ -41,8 +52,8 @@ impl CellTable {
     // Changes the cell under a number: no cell is changed otherwise.
     pub fn set(&mut self, number: u32, cell: Cell)
         requires number_nonzero { 0 < number }
-        requires number_in_bounds { number ≤ length (cells_of self.old) }
-        ensures { cells_of self.new ≡ with_cell (cells_of self.old) number cell }
+        requires number_in_bounds { number ≤ length self.old }
+        ensures { self.new ≡ with_cell self.old number cell }
     {
         self.cells[number as usize - 1] = cell;
     }

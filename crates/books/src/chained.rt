@@ -1,7 +1,7 @@
 // A clause book whose clauses are chains of cells: the cells of a struck clause are used again.
 ghost use Rattle.std.specs.Prelude.{◌≡◌, ℕ, ◌≤◌, true, ◌∷◌, ◌++◌, length, Some, slice_get};
 ghost use Rattle.books.specs.Promise.{Sized, max_cells};
-ghost use Rattle.books.specs.Chained.{cells_of, chain, times, ends, Sound, Short, chained, Parted, literals_in};
+ghost use Rattle.books.specs.Chained.{chain, times, ends, Sound, Short, chained, Parted, literals_in};
 
 use crate::cells::{Cell, CellTable};
 use crate::clause_book::{ClauseBook, NewBook, check_sizes};
@@ -18,10 +18,10 @@ pub struct ChainedBook {
     numbers: Numbers<u32>,
     free: u32,
     spare: u32,
-    ghost sound: { Sound (cells_of table) (Some free ∷ numbers.slots.items) },
-    ghost short: { Short (cells_of table) numbers.slots.items },
-    ghost keeps: { (spare ≡ length (chain (cells_of table) free)) × (length (cells_of table) ≤ max_cells) },
-    ghost within: { Sized (chained (cells_of table) numbers.slots.items numbers.most) },
+    ghost sound: { Sound table (Some free ∷ numbers.slots.items) },
+    ghost short: { Short table numbers.slots.items },
+    ghost keeps: { (spare ≡ length (chain table free)) × (length table ≤ max_cells) },
+    ghost within: { Sized (chained table numbers.slots.items numbers.most) },
 }
 
 // Where two chains begin: that of a new clause, and that of the cells still free.
@@ -33,11 +33,11 @@ struct Fronts {
 
 // Takes a free cell for each literal, the last literal first, and chains them.
 fn take_cells(table: &mut CellTable, mut free: u32, literals: &[u32]) -> Fronts
-    requires free { ends (cells_of table.old) free ≡ true }
-    requires once { (i : ℕ) → times i (chain (cells_of table.old) free) ≤ 1 }
-    requires enough { length literals.now ≤ length (chain (cells_of table.old) free) }
-    ensures parted { Parted (cells_of table.old) (cells_of table.new) (chain (cells_of table.old) free) result.free result.first }
-    ensures holds { literals_in (cells_of table.new) result.first ≡ literals.now }
+    requires free { ends table.old free ≡ true }
+    requires once { (i : ℕ) → times i (chain table.old free) ≤ 1 }
+    requires enough { length literals.now ≤ length (chain table.old free) }
+    ensures parted { Parted table.old table.new (chain table.old free) result.free result.first }
+    ensures holds { literals_in table.new result.first ≡ literals.now }
 {
     let mut first = 0;
     for literal in literals.iter().rev() {
@@ -57,11 +57,11 @@ fn take_cells(table: &mut CellTable, mut free: u32, literals: &[u32]) -> Fronts
 
 // Puts the cells of a chain before the free ones, and says where these begin then.
 fn give_back(table: &mut CellTable, first: u32, mut free: u32) -> u32
-    requires first { ends (cells_of table.old) first ≡ true }
-    requires free { ends (cells_of table.old) free ≡ true }
-    requires room { length (chain (cells_of table.old) first ++ chain (cells_of table.old) free) ≤ length (cells_of table.old) }
-    requires once { (i : ℕ) → times i (chain (cells_of table.old) first ++ chain (cells_of table.old) free) ≤ 1 }
-    ensures { Parted (cells_of table.old) (cells_of table.new) (chain (cells_of table.old) first ++ chain (cells_of table.old) free) 0 result }
+    requires first { ends table.old first ≡ true }
+    requires free { ends table.old free ≡ true }
+    requires room { length (chain table.old first ++ chain table.old free) ≤ length table.old }
+    requires once { (i : ℕ) → times i (chain table.old first ++ chain table.old free) ≤ 1 }
+    ensures { Parted table.old table.new (chain table.old first ++ chain table.old free) 0 result }
 {
     let mut left = first;
     while left != 0 {
@@ -81,9 +81,9 @@ fn give_back(table: &mut CellTable, first: u32, mut free: u32) -> u32
 
 // How many cells a chain has.
 fn chain_length(table: &CellTable, first: u32) -> u32
-    requires ends { ends (cells_of table.now) first ≡ true }
-    requires small { length (cells_of table.now) ≤ max_cells }
-    ensures { result ≡ length (chain (cells_of table.now) first) }
+    requires ends { ends table.now first ≡ true }
+    requires small { length table.now ≤ max_cells }
+    ensures { result ≡ length (chain table.now first) }
 {
     let mut cell = first;
     let mut count = 0;
@@ -96,8 +96,8 @@ fn chain_length(table: &CellTable, first: u32) -> u32
 
 // The literal at a place, from 0, of a chain, if it has one.
 fn nth_literal(table: &CellTable, first: u32, place: u32) -> Option<u32>
-    requires { ends (cells_of table.now) first ≡ true }
-    ensures { result ≡ slice_get (literals_in (cells_of table.now) first) place }
+    requires { ends table.now first ≡ true }
+    ensures { result ≡ slice_get (literals_in table.now first) place }
 {
     let mut cell = first;
     let mut left = place;
@@ -113,7 +113,7 @@ fn nth_literal(table: &CellTable, first: u32, place: u32) -> Option<u32>
 }
 
 impl ClauseBook for ChainedBook {
-    ghost meaning = { λ s. chained (cells_of s.table) s.numbers.slots.items s.numbers.most };
+    ghost meaning = { λ s. chained s.table s.numbers.slots.items s.numbers.most };
 
     ghost sized = { λ s. s.within };
 

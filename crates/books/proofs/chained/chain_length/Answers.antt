@@ -1,6 +1,6 @@
 use Rattle.std.proofs.Common.{length, ap, ◌∙◌, arith}
 use Rattle.books.specs.declared.cells.Cell.{Cell}
-use Rattle.books.specs.Chained.{cells_of, chain}
+use Rattle.books.specs.Chained.{chain}
 use Rattle.books.proofs.ChainedLinks.{chain_next, chain_none, chain_short}
 use Rattle.books.proofs.chained.chain_length.Goals as goal
 
@@ -8,7 +8,7 @@ pub get-cell-requires : goal.get-cell-requires
 get-cell-requires c = let n = chain_next _ _ c.loop-cell.invariant.0 c.loop-cell-test.true in record { number_nonzero = n.pos; number_in_bounds = n.within }
 
 pub overflow_add-count : goal.overflow_add-count
-overflow_add-count c = omega (arith, chain_short (cells_of c.args.table.now) c.args.first)
+overflow_add-count c = omega (arith, chain_short c.args.table.now c.args.first)
 
 pub loop-cell-preserved : goal.loop-cell-preserved
 loop-cell-preserved c =
@@ -24,6 +24,6 @@ loop-cell-smaller c =
 
 pub returns : goal.returns
 returns c =
-    let cs = cells_of c.args.table.now in
+    let cs = c.args.table.now in
     let none = ap (λ h. length (chain cs h)) c.loop-cell-test.false ∙ ap length (chain_none cs).1 in
     omega arith

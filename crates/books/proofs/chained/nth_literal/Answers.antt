@@ -1,7 +1,7 @@
 use Rattle.std.proofs.Common.{◌≡◌, ◌-◌, suc, length, Some, sym, ap, ◌∙◌, arith}
 use Rattle.std.specs.List.{slice_get}
 use Rattle.books.specs.declared.cells.Cell.{Cell}
-use Rattle.books.specs.Chained.{cells_of, literals_in}
+use Rattle.books.specs.Chained.{literals_in}
 use Rattle.books.proofs.ChainedLinks.{chain_next, literals_none, literals_next}
 use Rattle.books.proofs.chained.nth_literal.Goals as goal
 
@@ -10,7 +10,7 @@ get-literal-requires c = let n = chain_next _ _ c.loop-cell.invariant.0 c.loop-c
 
 pub returns-then-left-eq0 : goal.returns-then-left-eq0
 returns-then-left-eq0 c =
-    let cs = cells_of c.args.table.now in
+    let cs = c.args.table.now in
     let n = chain_next cs _ c.loop-cell.invariant.0 c.loop-cell-test.true in
     let is = literals_next cs _ n in
     ap (λ (x : Cell). Some x.literal) c.get-literal.ensures
@@ -19,7 +19,7 @@ returns-then-left-eq0 c =
 
 pub loop-cell-preserved : goal.loop-cell-preserved
 loop-cell-preserved c =
-    let cs = cells_of c.args.table.now in
+    let cs = c.args.table.now in
     let n = chain_next cs _ c.loop-cell.invariant.0 c.loop-cell-test.true in
     let is = literals_next cs _ n in
     let to = ap (λ (x : Cell). x.next) c.get-literal.ensures in
@@ -34,5 +34,5 @@ loop-cell-smaller c =
 
 pub returns : goal.returns
 returns c =
-    let cs = cells_of c.args.table.now in
+    let cs = c.args.table.now in
     sym (ap (λ h. slice_get (literals_in cs h) c.loop-cell.left) c.loop-cell-test.false ∙ ap (λ ls. slice_get ls c.loop-cell.left) (literals_none cs)) ∙ c.loop-cell.invariant.1

@@ -1,6 +1,5 @@
 use Rattle.std.proofs.Common.{Some, Ok, sym, ap, ◌∙◌, rules}
 use Rattle.books.specs.Promise.{length_answer}
-use Rattle.books.specs.Chained.{cells_of}
 use Rattle.books.proofs.ChainedHeads.{slot_row}
 use Rattle.books.proofs.ChainedBooks.{found, missing}
 use Rattle.books.proofs.chained.ChainedBookClauseBook.length.Goals as goal
@@ -18,4 +17,4 @@ returns c =
     let b = c.args.self.now in
     let h = c.in_ok-first.first in
     let f = found b c.args.number h c.in_ok-first.ensures in
-    ap Ok (c.chain_length.ensures ∙ sym (slot_row (cells_of b.table) (Some h))) ∙ sym (ap length_answer f.clause)
+    ap Ok (c.chain_length.ensures ∙ sym (slot_row b.table (Some h))) ∙ sym (ap length_answer f.clause)

@@ -1,7 +1,7 @@
 use Rattle.std.proofs.Common.{◌-◌, None, length, vec_items, sym, ap, arith, rules}
 use Rattle.std.proofs.lemmas.List.{length-append, length-set}
 use Rattle.books.specs.Promise.{strike_answer}
-use Rattle.books.specs.Chained.{cells_of, chain}
+use Rattle.books.specs.Chained.{chain}
 use Rattle.books.proofs.ChainedBooks.{chained_sized, Found, found, missing, struck_left, struck_means}
 use Rattle.books.proofs.chained.ChainedBookClauseBook.strike.Goals as goal
 use Rattle.books.proofs.chained.ChainedBookClauseBook.strike.Goals.{In_ok-first}
@@ -24,7 +24,7 @@ pub overflow_add-self : goal.overflow_add-self
 overflow_add-self c =
     let b = c.args.self.now in
     let f = at (goal.at.overflow_add-self c).In_ok-first in
-    let cs = cells_of b.table in
+    let cs = b.table in
     omega (arith, f.apart_free.room, length-append (chain cs c.in_ok-first.first) (chain cs b.free))
 
 pub clear-requires : goal.clear-requires
@@ -36,7 +36,7 @@ pub invariant_of-self : goal.invariant_of-self
 invariant_of-self c =
     let b = c.args.self.now in
     let f = at (goal.at.invariant_of-self c).In_ok-first in
-    let l = struck_left b c.args.number c.in_ok-first.first f (cells_of c.give_back-self.new.table) _ c.give_back-self.result c.clear.ensures.slots c.give_back-self.ensures in
+    let l = struck_left b c.args.number c.in_ok-first.first f c.give_back-self.new.table _ c.give_back-self.result c.clear.ensures.slots c.give_back-self.ensures in
     let size = c.give_back-self.ensures.size in
     let spare = l.spare in
     record {
@@ -50,8 +50,8 @@ pub returns : goal.returns
 returns c =
     let b = c.args.self.now in
     let f = at (goal.at.returns c).In_ok-first in
-    let l = struck_left b c.args.number c.in_ok-first.first f (cells_of c.give_back-self.new.table) _ c.give_back-self.result c.clear.ensures.slots c.give_back-self.ensures in
+    let l = struck_left b c.args.number c.in_ok-first.first f c.give_back-self.new.table _ c.give_back-self.result c.clear.ensures.slots c.give_back-self.ensures in
     record {
       answer = sym (ap strike_answer f.clause);
-      after = struck_means b c.args.number c.in_ok-first.first f (cells_of c.give_back-self.new.table) _ c.give_back-self.result _ _ c.clear.ensures.most c.give_back-self.ensures.size l;
+      after = struck_means b c.args.number c.in_ok-first.first f c.give_back-self.new.table _ c.give_back-self.result _ _ c.clear.ensures.most c.give_back-self.ensures.size l;
     }

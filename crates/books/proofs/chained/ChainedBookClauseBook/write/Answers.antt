@@ -1,5 +1,4 @@
 use Rattle.std.proofs.Common.{Ok, vec_items, sym, ap, ◌∙◌, arith}
-use Rattle.books.specs.Chained.{cells_of}
 use Rattle.books.proofs.BookAnswers.{write_granted}
 use Rattle.books.proofs.ChainedHeads.{free_once}
 use Rattle.books.proofs.ChainedBooks.{chained_sized, meaning_of, given_is, free_numbers_is, free_cells_is, written_left, written_means}
@@ -9,7 +8,7 @@ pub take_cells-fronts-requires : goal.take_cells-fronts-requires
 take_cells-fronts-requires c =
     let b = c.args.self.now in
     let spare = b.keeps.0 in
-    record { free = b.sound.0 0; once = free_once (cells_of b.table) (vec_items b.numbers.slots) b.free b.sound; enough = omega (arith, free_cells_is b) }
+    record { free = b.sound.0 0; once = free_once b.table (vec_items b.numbers.slots) b.free b.sound; enough = omega (arith, free_cells_is b) }
 
 pub give-requires : goal.give-requires
 give-requires c = omega (arith, free_numbers_is c.args.self.now)
