@@ -5,6 +5,7 @@ pub mod ChainedBooks
 pub mod ChainedHeads
 pub mod ChainedLinks
 pub mod ChainedMoves
+pub mod ChainedWalks
 pub mod ClauseReading
 pub mod PackedBooks
 pub mod PackedLayout

@@ -1,6 +1,7 @@
 // The cells that a chained book keeps its literals in.
-ghost use Rattle.std.specs.Prelude.{◌≡◌, ◌<◌, ◌≤◌, length, IfOk};
-ghost use Rattle.books.specs.Chained.{cell_at, with_cell, unused};
+ghost use Rattle.std.specs.Prelude.{◌≡◌, ◌<◌, ◌≤◌, true, length, IfOk};
+ghost use Rattle.std.specs.Iterator.{YieldsFirst, item_count};
+ghost use Rattle.books.specs.Chained.{cell_at, with_cell, unused, ends, literals_in};
 
 use std::alloc::{AllocError, Global};
 use std::marker::Model;
@@ -56,5 +57,52 @@ impl CellTable {
         ensures { self.new ≡ with_cell self.old number cell }
     {
         self.cells[number as usize - 1] = cell;
+    }
+
+    // The literals in the chain from a cell on.
+    pub fn chain(&self, first: u32) -> Chain<'_>
+        requires { ends self.now first ≡ true }
+        ensures { result ≡ literals_in self.now first }
+    {
+        Chain {
+            table: self,
+            next: first,
+        }
+    }
+}
+
+// The literals in a chain of cells that comes to an end, first to last.
+#[derive(Drop)]
+pub struct Chain<'a> {
+    table: &'a CellTable,
+    next: u32,
+}
+
+// Callers see the list of the literals that are left.
+impl<'a> Model for Chain<'a> {
+    ghost use Rattle.std.specs.Prelude.{◌≡◌, ℕ, List, true};
+    ghost use Rattle.books.specs.Chained.{ends, literals_in};
+
+    ghost Value = { List ℕ };
+
+    ghost view = { λ c. literals_in c.table.now c.next };
+
+    ghost invariant = { λ c. ends c.table.now c.next ≡ true };
+}
+
+impl Iterator for Chain<'_> {
+    type Item = u32;
+
+    ghost next_gives = { YieldsFirst (λ left. left) };
+
+    ghost remaining = { item_count (λ left. left) };
+
+    fn next(&mut self) -> Option<u32> {
+        if self.next == 0 {
+            return None;
+        }
+        let Cell { literal, next } = self.table.get(self.next);
+        self.next = next;
+        Some(literal)
     }
 }

@@ -79,39 +79,6 @@ fn give_back(table: &mut CellTable, first: u32, mut free: u32) -> u32
     free
 }
 
-// How many cells a chain has.
-fn chain_length(table: &CellTable, first: u32) -> u32
-    requires ends { ends table.now first ≡ true }
-    requires small { length table.now ≤ max_cells }
-    ensures { result ≡ length (chain table.now first) }
-{
-    let mut cell = first;
-    let mut count = 0;
-    while cell != 0 {
-        cell = table.get(cell).next;
-        count += 1;
-    }
-    count
-}
-
-// The literal at a place, from 0, of a chain, if it has one.
-fn nth_literal(table: &CellTable, first: u32, place: u32) -> Option<u32>
-    requires { ends table.now first ≡ true }
-    ensures { result ≡ slice_get (literals_in table.now first) place }
-{
-    let mut cell = first;
-    let mut left = place;
-    while cell != 0 {
-        let Cell { literal, next } = table.get(cell);
-        if left == 0 {
-            return Some(literal);
-        }
-        left -= 1;
-        cell = next;
-    }
-    None
-}
-
 impl ClauseBook for ChainedBook {
     ghost meaning = { λ s. chained s.table s.numbers.slots.items s.numbers.most };
 
@@ -132,17 +99,20 @@ impl ClauseBook for ChainedBook {
 
     fn length(&self, number: u32) -> Result<u32, Refusal> {
         let first = self.numbers.get(number)?;
-        Ok(chain_length(&self.table, first))
+        Ok(self.table.chain(first).count() as u32)
     }
 
     fn literal(&self, number: u32, place: u32) -> Result<u32, Refusal> {
         let first = self.numbers.get(number)?;
-        nth_literal(&self.table, first, place).ok_or(Refusal::NoClause)
+        self.table
+            .chain(first)
+            .nth(place as usize)
+            .ok_or(Refusal::NoClause)
     }
 
     fn strike(&mut self, number: u32) -> Result<(), Refusal> {
         let first = self.numbers.get(number)?;
-        let length = chain_length(&self.table, first);
+        let length = self.table.chain(first).count() as u32;
         self.free = give_back(&mut self.table, first, self.free);
         self.spare += length;
         self.numbers.clear(number);

@@ -1,7 +1,9 @@
-use Rattle.std.proofs.Common.{◌-◌, None, length, vec_items, sym, ap, arith, rules}
+use Rattle.std.proofs.Common.{◌-◌, Some, None, length, vec_items, sym, ap, ◌∙◌, arith, rules}
 use Rattle.std.proofs.lemmas.List.{length-append, length-set}
 use Rattle.books.specs.Promise.{strike_answer}
 use Rattle.books.specs.Chained.{chain}
+use Rattle.books.proofs.ChainedHeads.{slot_row}
+use Rattle.books.proofs.ChainedWalks.{counted}
 use Rattle.books.proofs.ChainedBooks.{chained_sized, Found, found, missing, struck_left, struck_means}
 use Rattle.books.proofs.chained.ChainedBookClauseBook.strike.Goals as goal
 use Rattle.books.proofs.chained.ChainedBookClauseBook.strike.Goals.{In_ok-first}
@@ -12,8 +14,8 @@ at c = found c.args.self.now c.args.number c.in_ok-first.first c.in_ok-first.ens
 pub returns-in_err-first : goal.returns-in_err-first
 returns-in_err-first c = let m = missing c.args.self.now c.args.number _ c.in_err-first.ensures in search rules
 
-pub chain_length-length-requires : goal.chain_length-length-requires
-chain_length-length-requires c = record { ends = (at (goal.at.chain_length-length-requires c).In_ok-first).goes; small = c.args.self.now.keeps.1 }
+pub chain-requires : goal.chain-requires
+chain-requires c = (at (goal.at.chain-requires c).In_ok-first).goes
 
 pub give_back-self-requires : goal.give_back-self-requires
 give_back-self-requires c =
@@ -25,7 +27,8 @@ overflow_add-self c =
     let b = c.args.self.now in
     let f = at (goal.at.overflow_add-self c).In_ok-first in
     let cs = b.table in
-    omega (arith, f.apart_free.room, length-append (chain cs c.in_ok-first.first) (chain cs b.free))
+    let long = counted _ _ c.count-length.ensures.ran ∙ ap length c.chain.ensures in
+    omega (arith, f.apart_free.room, slot_row cs (Some c.in_ok-first.first), length-append (chain cs c.in_ok-first.first) (chain cs b.free))
 
 pub clear-requires : goal.clear-requires
 clear-requires c =
@@ -39,6 +42,7 @@ invariant_of-self c =
     let l = struck_left b c.args.number c.in_ok-first.first f c.give_back-self.new.table _ c.give_back-self.result c.clear.ensures.slots c.give_back-self.ensures in
     let size = c.give_back-self.ensures.size in
     let spare = l.spare in
+    let long = counted _ _ c.count-length.ensures.ran ∙ ap length c.chain.ensures ∙ slot_row b.table (Some c.in_ok-first.first) in
     record {
       sound = l.sound;
       short = l.short;
