@@ -11,6 +11,10 @@ pub record Begun (whole start rest : List ℕ) (n : ℕ) (out : List ℕ) : Type
 drop_on : (k n : ℕ) (xs ys : List ℕ) → drop n xs ≡ drop n ys → drop (n + k) xs ≡ drop (n + k) ys
 drop_on k n xs ys e = sym (drop-drop k n xs) ∙ ap (drop k) e ∙ drop-drop k n ys
 
+-- nothing is written
+pub put_none : {whole start rest rest' out : List ℕ} {n : ℕ} → rest ≡ rest' → Begun whole start rest n out → Begun whole start rest' n out
+put_none e b = rw e at b
+
 -- one element is written
 pub put_one : {whole start rest rest' out : List ℕ} {x n : ℕ} → n < length out → rest ≡ x ∷ rest' → Begun whole start rest n out → Begun whole start rest' (n + 1) (set out n x)
 put_one {start = start} {out = out} {x} {n} h e b =
