@@ -56,6 +56,7 @@ fn take_cells(table: &mut CellTable, mut free: u32, literals: &[u32]) -> Fronts
 }
 
 // Puts the cells of a chain before the free ones, and says where these begin then.
+// The walk is by hand, since it changes the cells that it passes.
 fn give_back(table: &mut CellTable, first: u32, mut free: u32) -> u32
     requires first { ends table.old first ≡ true }
     requires free { ends table.old free ≡ true }
