@@ -4,10 +4,9 @@ ghost use Rattle.books.specs.Promise.{Sized, max_cells};
 ghost use Rattle.books.specs.Chained.{chain, times, ends, Sound, Short, chained, Parted, literals_in};
 
 use crate::cells::{Cell, CellTable};
-use crate::clause_book::{ClauseBook, NewBook, check_sizes};
+use crate::clause_book::{ClauseBook, NewBook, check_room, check_sizes};
 use crate::numbers::Numbers;
 use clauses::Refusal;
-use clauses::limits::MAX_LITERALS;
 use std::alloc::Global;
 
 // Each number whose clause stands has the first cell of the clause.
@@ -86,12 +85,7 @@ impl ClauseBook for ChainedBook {
     ghost sized = { λ s. s.within };
 
     fn write(&mut self, literals: &[u32]) -> Result<u32, Refusal> {
-        if literals.len() > MAX_LITERALS {
-            return Err(Refusal::LongClause);
-        }
-        if self.free_numbers() == 0 || (self.free_cells() as usize) < literals.len() {
-            return Err(Refusal::BookFull);
-        }
+        check_room(literals.len(), self.free_numbers(), self.free_cells())?;
         let fronts = take_cells(&mut self.table, self.free, literals);
         self.free = fronts.free;
         self.spare -= literals.len() as u32;
