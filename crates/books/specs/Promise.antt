@@ -36,6 +36,10 @@ granted (Err e) new old = old
 abbrev pub full : Book → List ℕ → Bool
 full b c = free_numbers b == 0 || nat_lt (free_cells b) (length c)
 
+-- what a check of the room for n literals answers, where t numbers and l cells are free
+abbrev pub room_answer : ℕ → ℕ → ℕ → Result (Unit {0}) Refusal
+room_answer t l n = cond (nat_lt max_literals n) (Err LongClause) (cond (t == 0 || nat_lt l n) (Err BookFull) (Ok tt))
+
 abbrev pub write_answer : Book → List ℕ → Result ℕ Refusal
 write_answer b c = cond (nat_lt max_literals (length c)) (Err LongClause) (cond (full b c) (Err BookFull) (Ok (given b + 1)))
 

@@ -4,10 +4,9 @@ ghost use Rattle.books.specs.Promise.{Sized, max_cells};
 ghost use Rattle.books.specs.Chained.{chain, times, ends, Sound, Short, chained, Parted, literals_in};
 
 use crate::cells::{Cell, CellTable};
-use crate::clause_book::{ClauseBook, NewBook, check_sizes};
+use crate::clause_book::{ClauseBook, NewBook, check_room, check_sizes};
 use crate::numbers::Numbers;
 use clauses::Refusal;
-use clauses::limits::MAX_LITERALS;
 use std::alloc::Global;
 
 // Each number whose clause stands has the first cell of the clause.
@@ -56,6 +55,7 @@ fn take_cells(table: &mut CellTable, mut free: u32, literals: &[u32]) -> Fronts
 }
 
 // Puts the cells of a chain before the free ones, and says where these begin then.
+// The walk is by hand, since it changes the cells that it passes.
 fn give_back(table: &mut CellTable, first: u32, mut free: u32) -> u32
     requires first { ends table.old first ≡ true }
     requires free { ends table.old free ≡ true }
@@ -85,12 +85,7 @@ impl ClauseBook for ChainedBook {
     ghost sized = { λ s. s.within };
 
     fn write(&mut self, literals: &[u32]) -> Result<u32, Refusal> {
-        if literals.len() > MAX_LITERALS {
-            return Err(Refusal::LongClause);
-        }
-        if self.free_numbers() == 0 || (self.free_cells() as usize) < literals.len() {
-            return Err(Refusal::BookFull);
-        }
+        check_room(literals.len(), self.free_numbers(), self.free_cells())?;
         let fronts = take_cells(&mut self.table, self.free, literals);
         self.free = fronts.free;
         self.spare -= literals.len() as u32;

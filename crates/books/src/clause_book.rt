@@ -1,10 +1,11 @@
 // What every clause book promises: clauses kept under numbers, within two sizes.
 ghost use Rattle.std.specs.Prelude.{◌≡◌};
 ghost use Rattle.books.specs.Book.{Book, given, clause_at, free_numbers, free_cells, written, struck};
-ghost use Rattle.books.specs.Promise.{Made, Sized, granted, sizes_answer, write_answer, length_answer, literal_answer, strike_answer};
+ghost use Rattle.books.specs.Promise.{Made, Sized, granted, sizes_answer, room_answer, write_answer, length_answer, literal_answer, strike_answer};
 ghost use Rattle.books.specs.BookLaw.{BookLaw};
 
 use clauses::Refusal;
+use clauses::limits::MAX_LITERALS;
 use std::alloc::Global;
 
 // A book gives at most this many numbers.
@@ -18,6 +19,19 @@ pub fn check_sizes(numbers: u32, cells: u32) -> Result<(), Refusal>
 {
     if numbers > MAX_NUMBERS || cells > MAX_CELLS {
         return Err(Refusal::Size);
+    }
+    Ok(())
+}
+
+// Refuses a clause that is too long, or for which no number or too few cells are free.
+pub fn check_room(length: usize, free_numbers: u32, free_cells: u32) -> Result<(), Refusal>
+    ensures { result ≡ room_answer free_numbers free_cells length }
+{
+    if length > MAX_LITERALS {
+        return Err(Refusal::LongClause);
+    }
+    if free_numbers == 0 || (free_cells as usize) < length {
+        return Err(Refusal::BookFull);
     }
     Ok(())
 }

@@ -4,7 +4,7 @@
 mod cells;
 pub mod chained;
 pub mod clause_book;
-pub mod numbers;
+mod numbers;
 pub mod packed;
 pub mod reading;
 pub mod spans;

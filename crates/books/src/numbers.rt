@@ -9,6 +9,7 @@ use clauses::Refusal;
 use std::alloc::{AllocError, Global};
 
 // The number k has its entry at place k - 1, and none once its clause is struck; at most `most` numbers are given.
+// The packed book changes its spans in place, so the crate sees the slots.
 #[derive(Drop)]
 pub struct Numbers<T> {
     pub(crate) slots: Vec<Option<T>>,

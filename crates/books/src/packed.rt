@@ -4,11 +4,10 @@ ghost use Rattle.std.specs.Option.{option_map};
 ghost use Rattle.books.specs.Promise.{Sized, max_cells};
 ghost use Rattle.books.specs.Packed.{LaidOut, packed, without, lowered, cleared};
 
-use crate::clause_book::{ClauseBook, NewBook, check_sizes};
+use crate::clause_book::{ClauseBook, NewBook, check_room, check_sizes};
 use crate::numbers::Numbers;
 use crate::spans::Span;
 use clauses::Refusal;
-use clauses::limits::MAX_LITERALS;
 use std::alloc::Global;
 
 // Each number whose clause stands has its span.
@@ -66,13 +65,8 @@ impl ClauseBook for PackedBook {
     ghost sized = { λ s. s.within };
 
     fn write(&mut self, literals: &[u32]) -> Result<u32, Refusal> {
-        if literals.len() > MAX_LITERALS {
-            return Err(Refusal::LongClause);
-        }
+        check_room(literals.len(), self.free_numbers(), self.free_cells())?;
         let length = literals.len() as u32;
-        if self.free_numbers() == 0 || self.free_cells() < length {
-            return Err(Refusal::BookFull);
-        }
         let start = self.literals.len() as u32;
         self.literals.extend_from_slice(literals).unwrap();
         Ok(self.numbers.give(Span { start, length }))
