@@ -15,6 +15,7 @@ use gates::{GateKind, NodeRecord, fill_clause};
 pub trait ClauseSink {
     // What there must be room for, and what a clause makes of the sink.
     ghost can_put: { Self → List ℕ → Type 0 };
+
     ghost put_gives: { Self → List ℕ → Self → Type 0 };
 
     fn put(&mut self, clause: &[u32])
