@@ -13,6 +13,9 @@ use gates::{GateKind, TwoInput};
 use plans::Plan;
 use texts::Reader;
 
+// The operator code of 'not' among two-input gates.
+const NOT: u32 = 16;
+
 // Reads a formula that nests at most `depth` deep into gates of the plan; answers its signal.
 fn read<G: GateKind>(reader: &mut Reader, depth: u8, plan: &mut Plan<G>) -> Result<u32, Refusal>
     ensures switches { plan.new.switches ≡ plan.old.switches }
@@ -20,23 +23,19 @@ fn read<G: GateKind>(reader: &mut Reader, depth: u8, plan: &mut Plan<G>) -> Resu
 {
     match reader.peek() {
         Some('-') => {
-            if depth == 0 {
-                return Err(Refusal::TooDeep);
-            }
+            let depth = depth.checked_sub(1).ok_or(Refusal::TooDeep)?;
             reader.skip();
-            let inner = read::<G>(reader, depth - 1, plan)?;
-            plan.gate(16, &[inner])
+            let inner = read::<G>(reader, depth, plan)?;
+            plan.gate(NOT, &[inner])
         }
         Some('(') => {
-            if depth == 0 {
-                return Err(Refusal::TooDeep);
-            }
+            let depth = depth.checked_sub(1).ok_or(Refusal::TooDeep)?;
             reader.skip();
-            let left = read::<G>(reader, depth - 1, plan)?;
-            let code = read_sign(reader)?;
-            let right = read::<G>(reader, depth - 1, plan)?;
+            let left = read::<G>(reader, depth, plan)?;
+            let sign = read_sign(reader)?;
+            let right = read::<G>(reader, depth, plan)?;
             read_close(reader)?;
-            plan.gate(code, &[left, right])
+            plan.gate(sign.code(), &[left, right])
         }
         _ => read_switch(reader, plan.switches()),
     }
