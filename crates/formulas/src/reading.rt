@@ -13,6 +13,9 @@ use gates::{GateKind, TwoInput};
 use plans::Plan;
 use texts::Reader;
 
+// The operator code of 'not' among two-input gates.
+const NOT: u32 = 16;
+
 // Reads a formula that nests at most `depth` deep into gates of the plan; answers its signal.
 fn read<G: GateKind>(reader: &mut Reader, depth: u8, plan: &mut Plan<G>) -> Result<u32, Refusal>
     ensures switches { plan.new.switches ≡ plan.old.switches }
@@ -20,23 +23,19 @@ fn read<G: GateKind>(reader: &mut Reader, depth: u8, plan: &mut Plan<G>) -> Resu
 {
     match reader.peek() {
         Some('-') => {
-            if depth == 0 {
-                return Err(Refusal::TooDeep);
-            }
+            let depth = depth.checked_sub(1).ok_or(Refusal::TooDeep)?;
             reader.skip();
-            let inner = read::<G>(reader, depth - 1, plan)?;
-            plan.gate(16, &[inner])
+            let inner = read(reader, depth, plan)?;
+            plan.gate(NOT, &[inner])
         }
         Some('(') => {
-            if depth == 0 {
-                return Err(Refusal::TooDeep);
-            }
+            let depth = depth.checked_sub(1).ok_or(Refusal::TooDeep)?;
             reader.skip();
-            let left = read::<G>(reader, depth - 1, plan)?;
-            let code = read_sign(reader)?;
-            let right = read::<G>(reader, depth - 1, plan)?;
+            let left = read(reader, depth, plan)?;
+            let sign = read_sign(reader)?;
+            let right = read(reader, depth, plan)?;
             read_close(reader)?;
-            plan.gate(code, &[left, right])
+            plan.gate(sign.code(), &[left, right])
         }
         _ => read_switch(reader, plan.switches()),
     }
@@ -49,7 +48,7 @@ fn read_whole<G: GateKind>(text: &[u8], plan: &mut Plan<G>) -> Result<(), Refusa
     ensures granted { plan.new ≡ formula_plan (then_root (read_formula G.GateKind.kind max_nesting text.now plan.old)) plan.new }
 {
     let mut reader = Reader::new(text);
-    let signal = read::<G>(&mut reader, MAX_NESTING as u8, plan)?;
+    let signal = read(&mut reader, MAX_NESTING as u8, plan)?;
     if reader.peek().is_some() {
         return Err(Refusal::BadLine);
     }
@@ -61,25 +60,26 @@ pub fn formula_of<G: GateKind>(plan: &mut Plan<G>, text: &[u8]) -> Result<(), Re
     ensures answer { result ≡ formula_done (formula_answer G.GateKind.kind plan.old text.now) }
     ensures after { plan.new ≡ formula_plan (formula_answer G.GateKind.kind plan.old text.now) plan.old }
 {
-    if plan.is_complete() || plan.gates().len() != 0 {
+    if plan.is_complete() || !plan.gates().is_empty() {
         return Err(Refusal::OutOfPlace);
     }
     if text.len() > MAX_TEXT {
         return Err(Refusal::LongText);
     }
-    let read = read_whole::<G>(text, plan);
+    let read = read_whole(text, plan);
     if read.is_err() {
         plan.clear();
     }
     read
 }
 
-// The formula call, in place of gates and root.
+// The formula call of a two-input plan, in place of gates and root; of these plans it is said which texts are formulas.
 pub fn formula(plan: &mut Plan<TwoInput>, text: &[u8]) -> Result<(), Refusal>
     ensures answer { result ≡ formula_done (formula_answer two_input plan.old text.now) }
     ensures after { plan.new ≡ formula_plan (formula_answer two_input plan.old text.now) plan.old }
     ensures exact { ReadsExactly plan.old text.now result plan.new }
 {
+    // so few that a text can have the number of each
     prove!(plan.switches() as usize <= MAX_SWITCHES);
-    formula_of::<TwoInput>(plan, text)
+    formula_of(plan, text)
 }

@@ -61,6 +61,6 @@ pub fn plan_demand<G: GateKind>(plan: &Plan<G>) -> Demand
     // so few that they can be counted
     prove!(plan.gates().len() <= MAX_GATES);
     let mut demand = Demand::default();
-    put_plan::<G, Demand>(&mut demand, plan);
+    put_plan(&mut demand, plan);
     demand
 }

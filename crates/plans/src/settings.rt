@@ -29,11 +29,10 @@ fn well_packed(switches: u16, setting: &[u8]) -> bool
 fn bit_at(setting: &[u8], place: usize) -> bool
     ensures { result ≡ bit_at setting.now place }
 {
-    let byte = place / 8;
-    if byte >= setting.len() {
-        return false;
+    match setting.get(place / 8) {
+        Some(byte) => (*byte >> (place % 8) as u8) & 1 == 1,
+        None => false,
     }
-    (setting[byte] >> (place % 8) as u8) & 1 == 1
 }
 
 // Takes a packed setting apart.
@@ -76,7 +75,7 @@ pub fn shown<G: GateKind>(plan: &Plan<G>, setting: &[u8]) -> Result<u16, Refusal
     if !well_packed(plan.switches(), setting) {
         return Err(Refusal::Setting);
     }
-    if !true_under::<G>(plan, setting) {
+    if !true_under(plan, setting) {
         return Err(Refusal::PlanFalse);
     }
     Ok(count_on(plan.switches(), setting))

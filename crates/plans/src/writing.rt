@@ -37,5 +37,5 @@ pub fn write_plan<G: GateKind, B: ClauseBook>(book: &mut B, plan: &Plan<G>)
     requires { T (has_room (B.ClauseBook.meaning book.old) (plan_clauses G.GateKind.kind plan.now)) }
     ensures { B.ClauseBook.meaning book.new ≡ all_written (B.ClauseBook.meaning book.old) (plan_clauses G.GateKind.kind plan.now) }
 {
-    put_plan::<G, B>(book, plan);
+    put_plan(book, plan);
 }

@@ -1,7 +1,7 @@
 -- The part for the switches gets the setting, and the part for all signals the values of the plan, whose root is read.
-use Rattle.std.proofs.Common.{◌≡◌, ℕ, ◌≤◌, Bool, false, List, ◌++◌, map, length, take, Some, None, Option, sym, ap, ◌∙◌, ap₂, arith, rules}
+use Rattle.std.proofs.Common.{◌≡◌, ℕ, ◌≤◌, Bool, false, List, ◌++◌, map, length, take, Some, None, Option, ap, ◌∙◌, ap₂, arith, rules}
 use Rattle.std.proofs.lemmas.List.FromFn.{length-map-range_with_len}
-use Rattle.std.proofs.lemmas.List.{length-map, length-take, length-append, length-drop, take-take, take_at}
+use Rattle.std.proofs.lemmas.List.{length-take, take-take, take_at}
 use Rattle.std.proofs.lemmas.Slice.{overwrites}
 use Rattle.gates.specs.declared.records.NodeRecord.{NodeRecord}
 use Rattle.gates.specs.Kinds.{Kind}
@@ -24,18 +24,6 @@ root_value K p bytes root switches count part gates unpacked behind evaluated re
     take_at evaluated rest count full ∙ made ∙ ap₂ (values_of K) is_gates (front ∙ set) in
     ap (λ vs. value_at vs root) values
     ∙ ap (λ (o : Option ℕ). elim o [ Some r ↦ value_at (plan_values K p (setting_of p.switches bytes)) r | None ↦ false ]) is_root
-
-pub slice_bounds-values-end-2 : goal.slice_bounds-values-end-2
-slice_bounds-values-end-2 g c = search (rules, overwrites)
-
-pub evaluate-requires : goal.evaluate-requires
-evaluate-requires g c =
-    let gates : length c.gates.result.now ≡ length c.args.plan.now.gates = sym (length-map c.gates.result.now node_of) ∙ ap length c.gates.ensures.gates in
-    let set : length c.unpack.new.values ≡ c.switches-switches.result = search (rules, overwrites) in
-    simp (length-take, length-append, length-drop) (omega arith)
-
-pub slice_bounds-value_at-end : goal.slice_bounds-value_at-end
-slice_bounds-value_at-end g c = search (rules, overwrites)
 
 pub returns : goal.returns
 returns g c =
