@@ -1,12 +1,12 @@
 -- The bytes that digits are packed in: their size and their bits.
-use Rattle.std.proofs.Common.{◌≡◌, ℕ, zero, suc, ◌+◌, ◌-◌, ◌*◌, ◌/◌, ◌%◌, ◌^◌, ◌<◌, ◌≤◌, min, Bool, true, false, cond, eqb, List, [], ◌∷◌, ◌++◌, map, length, get_or, take, drop, sym, refl, ap, ◌∙◌, ap₂, inl, inr, arith}
+use Rattle.std.proofs.Common.{◌≡◌, ℕ, zero, suc, ◌+◌, ◌-◌, ◌*◌, ◌/◌, ◌%◌, ◌^◌, ◌<◌, ◌≤◌, min, Bool, true, false, cond, eqb, List, [], ◌∷◌, ◌++◌, map, length, get_or, take, drop, sym, refl, ap, ◌∙◌, ap₂, arith}
 use native.Mathlib.Nat.{div-eq_of_lt}
 use mir.Val.{bool_byte}
 use Rattle.std.proofs.lemmas.Nat.{pow_pos, pow-add, shr-shr}
 use Rattle.std.proofs.lemmas.List.FromFn.{length-map-range_with_len, get_or-map-range_with_len, fill_by_all}
 use Rattle.std.proofs.lemmas.List.{append-nil, append_assoc, drop-drop, length-append, length-take, length-drop, length-map, get_or-take, get_or-drop, get_or-map, take_all, drop_all, take_at, drop_at}
 use Rattle.std.specs.List.{range_with_len}
-use Rattle.std.proofs.lemmas.Bool.{eq-eqb, and_from, cases_lt}
+use Rattle.std.proofs.lemmas.Bool.{eq-eqb, and_from}
 use Rattle.model.specs.Settings.{bit_at, setting_of, spare_bits, well_packed}
 use Rattle.verdicts.specs.Digits.{is_on, byte_of, bytes_of, packed_digits, DigitsLaw}
 

@@ -1,12 +1,12 @@
 -- The parts of a verdict line: how long they are, and the digits of a number.
-use Rattle.std.proofs.Common.{◌≡◌, ℕ, ◌+◌, ◌/◌, ◌%◌, ◌^◌, ◌<◌, ◌≤◌, List, [], ◌∷◌, ◌++◌, length, Some, None, decimal, Option, unwrap_or, refl, ap, ◌∙◌, arith, length-append}
+use Rattle.std.proofs.Common.{◌≡◌, ℕ, ◌+◌, ◌/◌, ◌%◌, ◌^◌, ◌<◌, ◌≤◌, [], ◌∷◌, ◌++◌, length, Some, None, decimal, Option, unwrap_or, refl, ap, ◌∙◌, arith, length-append}
 use Rattle.std.proofs.lemmas.Fmt.{decimal_digit, decimal_step, length-decimal-le}
 use Rattle.clauses.specs.declared.refusals.Refusal.{Refusal}
 use Rattle.clauses.specs.Refusals.{number_of}
 use Rattle.model.specs.declared.standing.Standing.{Standing}
 use Rattle.model.specs.declared.standing.Standing.TheVariants.{Open, CannotRun, Runs}
 use Rattle.model.specs.Standings.{standing_words}
-use Rattle.verdicts.specs.Verdicts.{spaced, refusal_number}
+use Rattle.verdicts.specs.Verdicts.{refusal_number}
 
 -- a blank and a number have at most six bytes
 pub decimal_short : (n : ℕ) → n < 2 ^ 16 → length (decimal n) ≤ 5

@@ -34,7 +34,8 @@ fn put_digits(number: u16, line: &mut Few<u8, 32>)
 // Adds a blank and a number to the line.
 fn put_spaced(number: u16, line: &mut Few<u8, 32>)
     requires { length (items_of line.old) + 6 ≤ 32 }
-    ensures { items_of line.new ≡ items_of line.old ++ spaced number }
+    ensures within { length (items_of line.new) ≤ length (items_of line.old) + 6 }
+    ensures line { items_of line.new ≡ items_of line.old ++ spaced number }
 {
     line.push(b' ');
     put_digits(number, line);
@@ -42,7 +43,7 @@ fn put_spaced(number: u16, line: &mut Few<u8, 32>)
 
 impl Verdict {
     // The line, with byte 10 at its end.
-    #[tactic(auto, using(crate::proofs::LineParts::decimal_short, crate::proofs::LineParts::words_short, crate::proofs::LineParts::number_or_zero))]
+    #[tactic(auto, using(crate::proofs::LineParts::words_short, crate::proofs::LineParts::number_or_zero))]
     fn line(self) -> Few<u8, 32>
         ensures { items_of result ≡ verdict_text self }
     {

@@ -1,5 +1,5 @@
 -- A digit behind the others, if there are any.
-use Rattle.std.proofs.Common.{ap, refl, lit<, arith, append_assoc, length-append}
+use Rattle.std.proofs.Common.{refl, lit<, arith, append_assoc, length-append}
 use Rattle.verdicts.proofs.LineParts.{length_one, length_step, last_digit, only_digit}
 use Rattle.verdicts.proofs.verdict_line.writing.+put_digits.Goals as goal
 use Rattle.verdicts.proofs.verdict_line.writing.+put_digits.Goals.{then-number-ge10, else-number-ge10}

@@ -1,3 +1,4 @@
+-- What was put so far stands behind what the line had.
 use Rattle.std.proofs.Common.{◌≡◌, ◌++◌, take}
 use Rattle.clauses.specs.Few.{items_of}
 use Rattle.verdicts.proofs.verdict_line.writing.put_text.Given as goal
