@@ -1,14 +1,11 @@
 -- The forms of lines whose fields are not numbers alone, and of lines with no form.
-use Rattle.std.proofs.Common.{◌≡◌, ℕ, ◌+◌, ◌<◌, ◌≤◌, true, false, ◌||◌, eqb, ◌⊎◌, List, [], ◌∷◌, length, get_or, drop, Some, None, Ok, Err, Option, Result, sym, refl, inl, inr, arith}
-use Rattle.std.proofs.lemmas.Bool.{ne_eqb, eq-eqb, or_left, or_right}
-use Rattle.std.proofs.lemmas.List.{at_drop_more, at_drop_all}
+use Rattle.std.proofs.Common.{◌≡◌, ℕ, ◌≤◌, true, false, List, [], ◌∷◌, length, Some, None, Ok, Err, Option, Result, refl, arith}
+use Rattle.std.proofs.lemmas.Bool.{ne_eqb}
 use Rattle.clauses.specs.declared.refusals.Refusal.{Refusal}
 use Rattle.clauses.specs.declared.refusals.Refusal.TheVariants.{BadLine}
 use Rattle.texts.specs.declared.lines.PlanKind.{PlanKind}
 use Rattle.texts.specs.Numbers.{number_answer}
-use Rattle.texts.specs.Lines.{Show, numbers, kind_of, kind_form, letter_of, plan_form, lone, all_bits, show_form, then_numbers, fields_of, form_of, line_form}
-use Rattle.texts.specs.declared.reader.Field.{Field}
-use Rattle.texts.specs.Fields.{HandsField}
+use Rattle.texts.specs.Lines.{Show, numbers, kind_of, kind_form, letter_of, plan_form, all_bits, show_form, then_numbers, fields_of, form_of, line_form}
 use Rattle.texts.proofs.LineNumbers.{numbers_ok}
 
 -- a plan wants one number

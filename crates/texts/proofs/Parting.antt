@@ -1,5 +1,5 @@
 -- How a text is parted at its first byte 10, and a line at its first blank.
-use Rattle.std.proofs.Common.{◌≡◌, ℕ, suc, ◌+◌, ◌<◌, ◌≤◌, not, eqb, leb, ltb, cond, List, [], ◌∷◌, length, take, drop, Some, None, Option, unwrap_or, refl, inl, inr, one-add, arith}
+use Rattle.std.proofs.Common.{◌≡◌, ℕ, ◌+◌, ◌<◌, ◌≤◌, not, eqb, List, [], ◌∷◌, length, take, drop, Some, None, unwrap_or, refl, inl, inr, one-add, arith}
 use Rattle.std.specs.List.{position, position_or_len, prefix_len}
 use Rattle.std.proofs.lemmas.Bool.{cases_Bool, cases_lt, lt-ltb, le-ltb}
 use Rattle.std.proofs.lemmas.List.{drop_more, drop_all}

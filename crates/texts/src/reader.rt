@@ -5,6 +5,7 @@ mod digits;
 mod parts;
 mod steps;
 
+// Contracts see the two fields, by `rest_of`: a model with what is left for its value would forget the place, which `Field` promises.
 #[derive(Drop)]
 pub struct Reader<'a> {
     text: &'a [u8],
