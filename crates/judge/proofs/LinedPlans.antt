@@ -33,8 +33,8 @@ lined_formula (Err e) (Ok v) old new h n = let z : ◌≡◌ {A = ℕ} 0 1 = cc 
 lined_formula (Err e) (Err f) old new h n = (cc, n)
 
 -- a refused begin or open is the verdict that the definition has
-pub turned_down_as : {B : Type 0} (meaning : B → Book) (was b : B) (k n : ℕ) (e : Refusal) (a : Result (Unit {0}) Refusal) (otherwise : Verdict × Book) (r : Result (Verdict × B) (Refusal × B)) → n ≡ k → r ≡ turned_down n e b → RefusedAs a e → b ≡ was → VerdictIs meaning was (elim a [ Ok u ↦ otherwise | Err f ↦ (Refused k f, meaning was) ]) r
-turned_down_as meaning was b k n e a otherwise r line is why same = rw (is, line) (go (number_of e) refl a why)
+pub turned_down_as : {B : Type 0} (meaning : B → Book) (was b : B) (k : ℕ) (e : Refusal) (a : Result (Unit {0}) Refusal) (otherwise : Verdict × Book) (r : Result (Verdict × B) (Refusal × B)) → r ≡ turned_down k e b → RefusedAs a e → b ≡ was → VerdictIs meaning was (elim a [ Ok u ↦ otherwise | Err f ↦ (Refused k f, meaning was) ]) r
+turned_down_as meaning was b k e a otherwise r is why same = rw is (go (number_of e) refl a why)
   where
     go : (o : Option ℕ) → number_of e ≡ o → (x : Result (Unit {0}) Refusal) → RefusedAs x e → VerdictIs meaning was (elim x [ Ok u ↦ otherwise | Err f ↦ (Refused k f, meaning was) ]) (elim o [ Some n ↦ Ok (Refused k e, b) | None ↦ Err (OutOfMemory, b) ])
     go None q x h = (refl, same)

@@ -1,5 +1,5 @@
 // Lines on an open docket.
-ghost use Rattle.std.specs.Prelude.{◌≡◌, ◌+◌, ◌≤◌, length};
+ghost use Rattle.std.specs.Prelude.{◌≡◌};
 ghost use Rattle.books.specs.Promise.{granted};
 ghost use Rattle.model.specs.Calls.{Show, answer, changed};
 ghost use Rattle.referee.specs.DocketStates.{state_of};
@@ -65,12 +65,11 @@ pub fn step_lines<G: GateKind, B: ClauseBook>(
     docket: &mut Docket<G, B>,
     lines: &mut NumberedLines,
 ) -> Verdict
-    requires { lines.old.number + length (left lines.old) ≤ 32768 }
     ensures { (result, B.ClauseBook.meaning docket.new.book) ≡ step_lines G.GateKind.kind (state_of B.ClauseBook.meaning docket.old) lines.old.number (left lines.old) }
 {
     while let Some(line) = lines.take() {
         if let Err(refusal) = step_line(docket, line) {
-            return Verdict::Refused(lines.number(), refusal);
+            return lines.refused(refusal);
         }
     }
     Verdict::Stands(docket.standing())

@@ -11,5 +11,5 @@ returns-in-Err g c =
     let K = g.G.GateKind.kind in
     let b = g.B.ClauseBook.meaning c.args.book in
     let l = c.args.lines.now in
-    turned_down_as g.B.ClauseBook.meaning c.args.book _ l.number _ _ (begin_answer c.args.switches) (plan_lines K c.args.kind (begun c.args.switches) b l.number (left l)) _
-    c.number.ensures c.turned_down.ensures c.in-Err.ensures refl
+    turned_down_as g.B.ClauseBook.meaning c.args.book _ l.number _ (begin_answer c.args.switches) (plan_lines K c.args.kind (begun c.args.switches) b l.number (left l)) _
+    c.turned_down.ensures c.in-Err.ensures refl
