@@ -1,5 +1,5 @@
 -- What a call answers and leaves is what its line comes to.
-use Rattle.std.proofs.Common.{◌≡◌, ℕ, Some, None, Ok, Err, Option, Result, refl, ap, arith}
+use Rattle.std.proofs.Common.{◌≡◌, ℕ, Some, None, Ok, Err, Option, Result, MatchResult, IsOkAnd, refl, ap, arith}
 use Rattle.clauses.specs.declared.refusals.Refusal.{Refusal}
 use Rattle.clauses.specs.declared.refusals.Refusal.TheVariants.{OutOfMemory}
 use Rattle.clauses.specs.Refusals.{number_of}
@@ -12,13 +12,12 @@ use Rattle.verdicts.specs.declared.verdict_line.Verdict.{Verdict}
 use Rattle.verdicts.specs.declared.verdict_line.Verdict.TheVariants.{Refused}
 use Rattle.judge.specs.Results.{becomes, Keeps, turned_down, VerdictIs}
 
-pub lined_granted : {A : Type 0} (a : Result A Refusal) (s : A) (new x : Plan) → Ok s ≡ a → new ≡ x → ◌≡◌ {A = Result Plan Refusal} (Ok new) (elim a [ Ok y ↦ Ok x | Err e ↦ Err e ])
-lined_granted (Ok y) s new x h n = ap Ok n
-lined_granted (Err e) s new x h n = let z : ◌≡◌ {A = ℕ} 0 1 = cc in absurd (omega arith)
-
-pub lined_refused : {A : Type 0} (a : Result A Refusal) (e : Refusal) (x : Plan) → Err e ≡ a → ◌≡◌ {A = Result Plan Refusal} (Err e) (elim a [ Ok y ↦ Ok x | Err f ↦ Err f ])
-lined_refused (Ok y) e x h = let z : ◌≡◌ {A = ℕ} 0 1 = cc in absurd (omega arith)
-lined_refused (Err f) e x h = cc
+pub lined_call : {A : Type 0} (P : A → Unit {0} → Type 0) (a r : Result A Refusal) (u : Result (Unit {0}) Refusal) (old new x : Plan) → r ≡ a → MatchResult r (λ y. IsOkAnd u (P y)) (λ e. u ≡ Err e) → new ≡ granted r x old → becomes u new ≡ elim a [ Ok y ↦ Ok x | Err f ↦ Err f ]
+lined_call P (Ok y) (Ok z) (Ok u) old new x h m n = ap Ok n
+lined_call P (Ok y) (Ok z) (Err e) old new x h m n = absurd m
+lined_call P (Ok y) (Err e) u old new x h m n = let z : ◌≡◌ {A = ℕ} 0 1 = cc in absurd (omega arith)
+lined_call P (Err e) (Ok y) u old new x h m n = let z : ◌≡◌ {A = ℕ} 0 1 = cc in absurd (omega arith)
+lined_call P (Err e) (Err f) u old new x h m n = rw m cc
 
 pub lined_done : (a r : Result (Unit {0}) Refusal) (old new x : Plan) → r ≡ a → new ≡ granted r x old → becomes r new ≡ elim a [ Ok y ↦ Ok x | Err f ↦ Err f ]
 lined_done (Ok u) (Ok v) old new x h n = ap Ok n

@@ -34,10 +34,7 @@ fn plan_line<G: GateKind>(
     ensures { becomes result (plan_of plan.new) ≡ plan_lined G.GateKind.kind kind (plan_of plan.old) (formed line.entry) }
 {
     match line? {
-        Line::Gate(code, operands) => {
-            plan.gate(code, operands.as_slice())?;
-            Ok(())
-        }
+        Line::Gate(code, operands) => plan.gate(code, operands.as_slice()).map(|_| ()),
         Line::Root(signal) => plan.root(signal),
         Line::Formula(text) => formula_line::<G>(plan, kind, text),
         _ => Err(Refusal::OutOfPlace),

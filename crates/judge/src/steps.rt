@@ -40,20 +40,13 @@ fn step_line<G: GateKind, B: ClauseBook>(
     ensures keeps { Keeps result (state_of B.ClauseBook.meaning docket.old) (state_of B.ClauseBook.meaning docket.new) }
 {
     match line? {
-        Line::Define(signal, code, operands) => {
-            docket.define(signal, code, operands.as_slice())?;
-            Ok(())
-        }
-        Line::Resolve(left, right) => {
-            docket.resolve(left, right)?;
-            Ok(())
-        }
+        Line::Define(signal, code, operands) => docket
+            .define(signal, code, operands.as_slice())
+            .map(|_| ()),
+        Line::Resolve(left, right) => docket.resolve(left, right).map(|_| ()),
         Line::Strike(number) => docket.strike(number),
         Line::Settle(number) => docket.settle(number),
-        Line::Show(digits) => {
-            show_digits(docket, digits)?;
-            Ok(())
-        }
+        Line::Show(digits) => show_digits(docket, digits).map(|_| ()),
         Line::Plan(_, _) | Line::Gate(_, _) | Line::Root(_) | Line::Formula(_) => {
             Err(Refusal::OutOfPlace)
         }
