@@ -49,7 +49,6 @@ module _ (K : Kind) (kind : PlanKind) where
 
   plan_line_was : (p q : Plan) (f : Result Form Refusal) → plan_lined K kind p f ≡ Ok q → PlanLine p q f
   plan_line_was p q (Err e) h = cc
-  plan_line_was p q (Ok (lines.Plan k n)) h = cc
   plan_line_was p q (Ok (lines.Gate code operands)) h = go (gate_answer K p code operands) refl h
     where
       go : (r : Result ℕ Refusal) → gate_answer K p code operands ≡ r → ◌≡◌ {A = Result Plan Refusal} (elim r [ Ok s ↦ Ok (with_gate p (node code operands)) | Err e ↦ Err e ]) (Ok q) → PlanLine p q (Ok (lines.Gate code operands))
@@ -65,11 +64,7 @@ module _ (K : Kind) (kind : PlanKind) where
       go : (k : PlanKind) → kind ≡ k → formula_line K k p text ≡ Ok q → PlanLine p q (Ok (lines.Formula text))
       go TwoInput t i = inr (inr record { text = text; two_input_plan = t; form = refl; after = i })
       go Wide t i = cc
-  plan_line_was p q (Ok (lines.Define z code operands)) h = cc
-  plan_line_was p q (Ok (lines.Resolve a b)) h = cc
-  plan_line_was p q (Ok (lines.Strike k)) h = cc
-  plan_line_was p q (Ok (lines.Settle k)) h = cc
-  plan_line_was p q (Ok (lines.Show digits)) h = cc
+  plan_line_was p q (Ok other) h = cc
 
   -- the plan with gates more
   abbrev pub with_gates : Plan → List Node → Plan

@@ -99,14 +99,7 @@ module _ (spelt_lines : LineLaw) (formula_law : (p : Plan) (text : List ℕ) (q 
       first : (f : Result Form Refusal) (fs : List (Result Form Refusal)) → forms_of text ≡ f ∷ fs → (first_line f b 1 fs).0 ≡ Stands s → About text b s
       first (Ok (lines.Plan kind n)) fs q h = about_plan text b kind n fs s q h
       first (Err x) fs q h = cc
-      first (Ok (lines.Gate code operands)) fs q h = cc
-      first (Ok (lines.Root r)) fs q h = cc
-      first (Ok (lines.Formula t)) fs q h = cc
-      first (Ok (lines.Define y code operands)) fs q h = cc
-      first (Ok (lines.Resolve x y)) fs q h = cc
-      first (Ok (lines.Strike n)) fs q h = cc
-      first (Ok (lines.Settle n)) fs q h = cc
-      first (Ok (lines.Show digits)) fs q h = cc
+      first (Ok other) fs q h = cc
 
       all : (fs : List (Result Form Refusal)) → forms_of text ≡ fs → (all_lines b 0 fs).0 ≡ Stands s → About text b s
       all [] q h = cc

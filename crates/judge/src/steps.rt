@@ -47,9 +47,7 @@ fn step_line<G: GateKind, B: ClauseBook>(
         Line::Strike(number) => docket.strike(number),
         Line::Settle(number) => docket.settle(number),
         Line::Show(digits) => show_digits(docket, digits).map(|_| ()),
-        Line::Plan(_, _) | Line::Gate(_, _) | Line::Root(_) | Line::Formula(_) => {
-            Err(Refusal::OutOfPlace)
-        }
+        _ => Err(Refusal::OutOfPlace),
     }
 }
 
