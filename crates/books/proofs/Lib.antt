@@ -1,5 +1,6 @@
 pub mod BookLaws
 pub mod BookAnswers
+pub mod BookEntries
 pub mod ChainedBooks
 pub mod ChainedHeads
 pub mod ChainedLinks

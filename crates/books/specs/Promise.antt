@@ -18,6 +18,10 @@ max_cells = 6144
 abbrev pub oversized : ℕ → ℕ → Bool
 oversized t l = nat_lt max_numbers t || nat_lt max_cells l
 
+-- what a check of the sizes answers
+abbrev pub sizes_answer : ℕ → ℕ → Result (Unit {0}) Refusal
+sizes_answer t l = cond (oversized t l) (Err Size) (Ok tt)
+
 -- what making a book of t numbers and l cells answers: an empty book within the limits, or why there is none
 abbrev pub Made : {B : Type 0} → (B → Book) → ℕ → ℕ → Result B Refusal → Type 0
 Made meaning t l (Ok b) = (t ≤ max_numbers) × (l ≤ max_cells) × (meaning b ≡ empty t l)

@@ -1,64 +1,27 @@
 // A clause book whose clauses are chains of cells: the cells of a struck clause are used again.
-ghost use Rattle.std.specs.Prelude.{◌≡◌, ℕ, ◌≤◌, true, ◌∷◌, ◌++◌, length, Some, vec_len, vec_capacity, slice_index};
-ghost use Rattle.std.specs.Option.{ok_or};
-ghost use Rattle.clauses.specs.declared.refusals.Refusal.TheVariants.{NoClause};
-ghost use Rattle.books.specs.Promise.{Made, Sized, max_numbers, max_cells};
-ghost use Rattle.books.specs.Chained.{cells_of, chain, times, ends, Sound, Short, chained, head_at, Parted, literals_in};
+ghost use Rattle.std.specs.Prelude.{◌≡◌, ℕ, ◌≤◌, true, ◌∷◌, ◌++◌, length, Some, slice_get};
+ghost use Rattle.books.specs.Promise.{Sized, max_cells};
+ghost use Rattle.books.specs.Chained.{cells_of, chain, times, ends, Sound, Short, chained, Parted, literals_in};
 
 use crate::cells::{Cell, CellTable};
-use crate::clause_book::{ClauseBook, MAX_CELLS, MAX_NUMBERS};
+use crate::clause_book::{ClauseBook, NewBook, check_sizes};
+use crate::numbers::Numbers;
 use clauses::Refusal;
 use clauses::limits::MAX_LITERALS;
 use std::alloc::Global;
 
-// The number k has the first cell of its clause at place k - 1 of the heads, and none once the clause is struck.
+// Each number whose clause stands has the first cell of the clause.
 // The free cells are a chain too, from `free` on, of `spare` cells.
 #[derive(Drop)]
 pub struct ChainedBook {
     table: CellTable,
-    heads: Vec<Option<u32>>,
+    numbers: Numbers<u32>,
     free: u32,
     spare: u32,
-    numbers: u32,
-    ghost sound: { Sound (cells_of table) (Some free ∷ heads.items) },
-    ghost short: { Short (cells_of table) heads.items },
+    ghost sound: { Sound (cells_of table) (Some free ∷ numbers.slots.items) },
+    ghost short: { Short (cells_of table) numbers.slots.items },
     ghost keeps: { (spare ≡ length (chain (cells_of table) free)) × (length (cells_of table) ≤ max_cells) },
-    ghost gives: { (vec_len heads ≤ numbers) × (numbers ≤ vec_capacity heads) × (numbers ≤ max_numbers) },
-    ghost within: { Sized (chained (cells_of table) heads.items numbers) },
-}
-
-impl ChainedBook {
-    // An empty book that gives up to `numbers` numbers and keeps up to `cells` literals.
-    pub fn new(heap: Global, numbers: u32, cells: u32) -> Result<ChainedBook, Refusal>
-        ensures { Made (λ b. chained (cells_of b.table) b.heads.items b.numbers) numbers cells result }
-    {
-        if numbers > MAX_NUMBERS || cells > MAX_CELLS {
-            return Err(Refusal::Size);
-        }
-        let Ok(table) = CellTable::new(heap, cells) else {
-            return Err(Refusal::OutOfMemory);
-        };
-        let Ok(heads) = Vec::with_capacity(heap, numbers as usize) else {
-            return Err(Refusal::OutOfMemory);
-        };
-        Ok(ChainedBook {
-            table,
-            heads,
-            free: cells,
-            spare: cells,
-            numbers,
-        })
-    }
-
-    // The first cell of the clause under a number.
-    fn head(&self, number: u32) -> Result<u32, Refusal>
-        ensures { result ≡ ok_or (head_at self.now.heads.items number) NoClause }
-    {
-        if number == 0 || number as usize > self.heads.len() {
-            return Err(Refusal::NoClause);
-        }
-        self.heads[number as usize - 1].ok_or(Refusal::NoClause)
-    }
+    ghost within: { Sized (chained (cells_of table) numbers.slots.items numbers.most) },
 }
 
 // Where two chains begin: that of a new clause, and that of the cells still free.
@@ -131,23 +94,26 @@ fn chain_length(table: &CellTable, first: u32) -> u32
     count
 }
 
-// The cell at a place, from 0, of a chain, and 0 past its end.
-fn nth_cell(table: &CellTable, first: u32, place: u32) -> u32
+// The literal at a place, from 0, of a chain, if it has one.
+fn nth_literal(table: &CellTable, first: u32, place: u32) -> Option<u32>
     requires { ends (cells_of table.now) first ≡ true }
-    ensures { result ≡ slice_index (chain (cells_of table.now) first) place }
+    ensures { result ≡ slice_get (literals_in (cells_of table.now) first) place }
 {
     let mut cell = first;
-    for passed in 0..place {
-        if cell == 0 {
-            return 0;
+    let mut left = place;
+    while cell != 0 {
+        let Cell { literal, next } = table.get(cell);
+        if left == 0 {
+            return Some(literal);
         }
-        cell = table.get(cell).next;
+        left -= 1;
+        cell = next;
     }
-    cell
+    None
 }
 
 impl ClauseBook for ChainedBook {
-    ghost meaning = { λ s. chained (cells_of s.table) s.heads.items s.numbers };
+    ghost meaning = { λ s. chained (cells_of s.table) s.numbers.slots.items s.numbers.most };
 
     ghost sized = { λ s. s.within };
 
@@ -159,44 +125,51 @@ impl ClauseBook for ChainedBook {
             return Err(Refusal::BookFull);
         }
         let fronts = take_cells(&mut self.table, self.free, literals);
-        self.heads.push_reserved(Some(fronts.first));
         self.free = fronts.free;
         self.spare -= literals.len() as u32;
-        Ok(self.heads.len() as u32)
+        Ok(self.numbers.give(fronts.first))
     }
 
     fn length(&self, number: u32) -> Result<u32, Refusal> {
-        let first = self.head(number)?;
+        let first = self.numbers.get(number)?;
         Ok(chain_length(&self.table, first))
     }
 
     fn literal(&self, number: u32, place: u32) -> Result<u32, Refusal> {
-        let first = self.head(number)?;
-        let cell = nth_cell(&self.table, first, place);
-        if cell == 0 {
-            return Err(Refusal::NoClause);
-        }
-        Ok(self.table.get(cell).literal)
+        let first = self.numbers.get(number)?;
+        nth_literal(&self.table, first, place).ok_or(Refusal::NoClause)
     }
 
     fn strike(&mut self, number: u32) -> Result<(), Refusal> {
-        let first = self.head(number)?;
+        let first = self.numbers.get(number)?;
         let length = chain_length(&self.table, first);
         self.free = give_back(&mut self.table, first, self.free);
         self.spare += length;
-        self.heads[number as usize - 1] = None;
+        self.numbers.clear(number);
         Ok(())
     }
 
     fn given(&self) -> u32 {
-        self.heads.len() as u32
+        self.numbers.given()
     }
 
     fn free_numbers(&self) -> u32 {
-        self.numbers - self.heads.len() as u32
+        self.numbers.free()
     }
 
     fn free_cells(&self) -> u32 {
         self.spare
+    }
+}
+
+impl NewBook for ChainedBook {
+    fn new(heap: Global, numbers: u32, cells: u32) -> Result<ChainedBook, Refusal> {
+        check_sizes(numbers, cells)?;
+        Ok(ChainedBook {
+            table: CellTable::new(heap, cells)?,
+            numbers: Numbers::new(heap, numbers)?,
+            free: cells,
+            spare: cells,
+        })
     }
 }
