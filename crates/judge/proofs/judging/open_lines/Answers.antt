@@ -12,5 +12,5 @@ returns-in-Err g c =
     let p = plan_of c.args.plan.now in
     let b = g.B.ClauseBook.meaning c.args.book in
     let l = c.args.lines.now in
-    turned_down_as g.B.ClauseBook.meaning c.args.book _ l.number _ _ (open_answer K p b) (step_lines K (opened K p b) l.number (left l)) _
-    c.number.ensures c.turned_down.ensures c.in-Err.ensures.0 c.in-Err.ensures.1
+    turned_down_as g.B.ClauseBook.meaning c.args.book _ l.number _ (open_answer K p b) (step_lines K (opened K p b) l.number (left l)) _
+    c.turned_down.ensures c.in-Err.ensures.0 c.in-Err.ensures.1
