@@ -1,6 +1,5 @@
 // The verdict on a text.
 ghost use Rattle.std.specs.Prelude.{◌≡◌};
-ghost use Rattle.plans.specs.PlanStates.{plan_of};
 ghost use Rattle.judge.specs.Judging.{open_lines, begin_lines, all_lines, judged};
 ghost use Rattle.judge.specs.LineStates.{left};
 ghost use Rattle.judge.specs.Results.{turned_down, VerdictIs, Judges};
@@ -39,7 +38,7 @@ fn open_lines<G: GateKind, B: ClauseBook>(
     book: B,
     lines: &mut NumberedLines,
 ) -> Result<(Verdict, B), (Refusal, B)>
-    ensures { VerdictIs B.ClauseBook.meaning book (open_lines G.GateKind.kind (plan_of plan.now) (B.ClauseBook.meaning book) lines.old.number (left lines.old)) result }
+    ensures { VerdictIs B.ClauseBook.meaning book (open_lines G.GateKind.kind plan.now (B.ClauseBook.meaning book) lines.old.number (left lines.old)) result }
 {
     match Docket::<G, B>::open(heap, plan, book) {
         Ok(mut docket) => {
