@@ -18,7 +18,7 @@ returns-then-field-eq0 c =
     elim c.then-field-eq0.branch [
       | then-field-eq0-via-then-field-eq0 w ↦ omega arith
       | then-field-eq0-via-else-field-eq0+then-field-gt5 w ↦ omega arith
-      | then-field-eq0-via-else-field-eq0+else-field-gt5+then-field-gt1 w ↦ omega (arith, s.plain_first w.if-field-gt1.true.0)
+      | then-field-eq0-via-else-field-eq0+else-field-gt5+then-field-gt1 w ↦ omega (arith, s.plain_first)
     ] in
     record { answer = sym (not_number _ none); exact = none }
 
