@@ -1,6 +1,7 @@
 // At most so many items, kept in place: no memory is taken.
-ghost use Rattle.std.specs.Prelude.{◌≡◌, ◌≤◌, ◌<◌, [], ◌∷◌, ◌++◌, length, Ok};
+ghost use Rattle.std.specs.Prelude.{◌≡◌, ◌+◌, ◌≤◌, ◌<◌, [], ◌∷◌, ◌++◌, length, Ok};
 
+use crate::buffers::copy_at;
 use std::alloc::AllocError;
 
 // The first `count` of the places are the items; the others mean nothing.
@@ -57,5 +58,14 @@ impl<T: Copy, const N: usize> Few<T, N> {
     {
         self.places[self.count] = item;
         self.count += 1;
+    }
+
+    // Adds items behind the others, for which there are places.
+    pub fn extend_from_slice(&mut self, more: &[T])
+        requires { length (items_of self.old) + length more.now ≤ N }
+        ensures { items_of self.new ≡ items_of self.old ++ more.now }
+    {
+        let end = copy_at(more, &mut self.places, self.count);
+        self.count = end;
     }
 }
