@@ -1,4 +1,3 @@
-pub mod Distinct
 pub mod Evaluating
 pub mod Filling
 pub mod Inserting
