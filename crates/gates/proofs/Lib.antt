@@ -1,4 +1,3 @@
-pub mod Evaluating
 pub mod Filling
 pub mod Inserting
 pub mod GateLaw
