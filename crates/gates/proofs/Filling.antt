@@ -1,6 +1,6 @@
 -- One turn of the loop that fills a buffer with an instance of a pattern.
 use Rattle.std.proofs.Common.{◌≡◌, ℕ, ◌+◌, ◌-◌, ◌<◌, ◌≤◌, List, [], ◌∷◌, ◌++◌, map, length, get_or, take, drop, sym, refl, ap, ◌∙◌, ap₂, arith}
-use Rattle.std.proofs.lemmas.List.{length-map, length-take-le, map_more, take_all, take_at, drop-drop, drop_at}
+use Rattle.std.proofs.lemmas.List.{length-map, length-take-le, map_more, take_at, drop-drop, drop_at}
 use Rattle.gates.specs.declared.kinds.SlotLiteral.{SlotLiteral}
 use Rattle.gates.specs.Kinds.{past_end}
 use Rattle.clauses.specs.Buffers.{written_over}
@@ -36,9 +36,6 @@ module _ (f : SlotLiteral → ℕ) (p : List SlotLiteral) where
   filled_more : (i : ℕ) → i < length p → insert (f (get_or p i past_end)) (filled i) ≡ filled (i + 1)
   filled_more i h = sym (ap (λ ls. insert_all ls []) (map_more f p i past_end h) ∙ insert_all_push (map f (take i p)) [] (f (get_or p i past_end)))
 
-  filled_all : (i : ℕ) → length p ≤ i → filled i ≡ insert_all (map f p) []
-  filled_all i h = ap (λ q. insert_all (map f q) []) (take_all i p h)
-
   module _ (out₀ out : List ℕ) (i n c : ℕ) (h : i < length p) (n_is : n ≡ length (filled i)) (out_is : out ≡ written_over (filled i) out₀) (c_is : c ≡ f (get_or p i past_end)) where
     step_is : insert c (take n out) ≡ filled (i + 1)
     step_is = ap₂ insert c_is (ap (take n) out_is ∙ take_at (filled i) _ n (sym n_is)) ∙ filled_more i h
@@ -51,14 +48,3 @@ module _ (f : SlotLiteral → ℕ) (p : List SlotLiteral) where
         e
         ∙ ap₂ written_over step_is out_is
         ∙ over_over (filled i) (filled (i + 1)) out₀ (omega (arith, ap length (filled_more i h), length-insert (f (get_or p i past_end)) (filled i)))
-
-  -- the whole pattern is put in
-  module _ (out₀ out : List ℕ) (i n : ℕ) (h : length p ≤ i) (n_is : n ≡ length (filled i)) (out_is : out ≡ written_over (filled i) out₀) where
-    abbrev whole : List ℕ
-    whole = insert_all (map f p) []
-
-    pub end_front : take (n - 0) out ≡ whole
-    end_front = ap (take (n - 0)) out_is ∙ take_at (filled i) _ (n - 0) (omega arith) ∙ filled_all i h
-
-    pub end_buffer : out ≡ written_over whole out₀
-    end_buffer = out_is ∙ ap (λ xs. written_over xs out₀) (filled_all i h)

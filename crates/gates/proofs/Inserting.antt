@@ -1,5 +1,5 @@
 -- Putting a literal into its place, in a list and in the buffer that holds it.
-use Rattle.std.proofs.Common.{◌≡◌, ℕ, zero, suc, ◌+◌, ◌-◌, ◌<◌, ◌≤◌, eqb, ltb, List, [], ◌∷◌, ◌++◌, length, get_or, take, drop, set, sym, refl, ap, ◌∙◌, subst, ap₂, arith}
+use Rattle.std.proofs.Common.{◌≡◌, ℕ, zero, suc, ◌+◌, ◌-◌, ◌<◌, ◌≤◌, eqb, ltb, List, [], ◌∷◌, ◌++◌, length, get_or, take, drop, set, sym, refl, ap, ◌∙◌, ap₂, arith}
 use lib.Seq.{paste}
 use Rattle.std.proofs.lemmas.List.{append_assoc, take-append-drop, length-take-le, length-drop, get_or-take, take_more, take-take, drop-take, drop_more, set_at}
 use Rattle.std.specs.List.{insert as inserted}
@@ -81,22 +81,16 @@ insert_all_push [] cs l = refl
 insert_all_push (m ∷ ls) cs l = insert_all_push ls (insert m cs) l
 
 -- the two ways through `insert`: the place p was looked for among the first n literals of the buffer
-module _ (c : ℕ) (buf : List ℕ) (n p : ℕ) (room : n < length buf) (le : p ≤ length (take (n - 0) buf)) (below : Below c (take (n - 0) buf) p) where
-  front_is : take (n - 0) buf ≡ take n buf
-  front_is = ap (λ k. take k buf) (omega arith)
-
+module _ (c : ℕ) (buf : List ℕ) (n p : ℕ) (room : n < length buf) (le : p ≤ length (take n buf)) (below : Below c (take n buf) p) where
   front_length : length (take n buf) ≡ n
   front_length = length-take-le n buf (omega arith)
 
-  front_below : Below c (take n buf) p
-  front_below = subst (λ xs. Below c xs p) front_is below
-
   place_within : p ≤ n
-  place_within = omega (arith, front_length, ap length front_is)
+  place_within = omega (arith, front_length)
 
   module _ (lt : p < n) (e : get_or buf p 0 ≡ c) where
     present : insert c (take n buf) ≡ take n buf
-    present = insert_present c (take n buf) p (omega (arith, front_length)) front_below (get_or-take n buf p 0 lt ∙ e)
+    present = insert_present c (take n buf) p (omega (arith, front_length)) below (get_or-take n buf p 0 lt ∙ e)
 
     pub present_count : n ≡ length (insert c (take n buf))
     present_count = sym (ap length present ∙ front_length)
@@ -104,16 +98,16 @@ module _ (c : ℕ) (buf : List ℕ) (n p : ℕ) (room : n < length buf) (le : p 
     pub present_buffer : buf ≡ written_over (insert c (take n buf)) buf
     present_buffer = sym (ap (λ xs. written_over xs buf) present ∙ ap (λ k. take n buf ++ drop k buf) front_length ∙ take-append-drop n buf)
 
-  module _ (reached : p < length (take (n - 0) buf) → c ≤ get_or (take (n - 0) buf) p 0) (differs : p < n → get_or buf p 0 ≡ c → ⊥) where
+  module _ (reached : p < length (take n buf) → c ≤ get_or (take n buf) p 0) (differs : p < n → get_or buf p 0 ≡ c → ⊥) where
     above : p < length (take n buf) → c < get_or (take n buf) p 0
     above h =
         let g : get_or (take n buf) p 0 ≡ get_or buf p 0 = get_or-take n buf p 0 (omega (arith, front_length)) in
-        let r : c ≤ get_or (take n buf) p 0 = subst (λ xs. p < length xs → c ≤ get_or xs p 0) front_is reached h in
+        let r : c ≤ get_or (take n buf) p 0 = reached h in
         let ne : get_or buf p 0 ≡ c → ⊥ = differs (omega (arith, front_length)) in
         grind (arith, ne)
 
     absent : insert c (take n buf) ≡ inserted (take n buf) p c
-    absent = insert_absent c (take n buf) p (omega (arith, front_length, place_within)) front_below above
+    absent = insert_absent c (take n buf) p (omega (arith, front_length, place_within)) below above
 
     pub absent_count : n + 1 ≡ length (insert c (take n buf))
     absent_count = sym (ap length absent ∙ length_inserted (take n buf) p c (omega (arith, front_length, place_within)) ∙ ap (λ k. k + 1) front_length)

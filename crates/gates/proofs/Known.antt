@@ -18,9 +18,6 @@ module _ (K : Kind) (node : Node) where
   pub known_pattern : (i : ℕ) → known K node ≡ true → get_or (node_patterns K node) i [] ≡ get_or (K.patterns node.code) i []
   known_pattern i e = ap (λ ps. get_or ps i []) (known_patterns e)
 
-  pub known_within : (i : ℕ) → known K node ≡ true → i < length (node_patterns K node) → i < length (K.patterns node.code)
-  known_within i e h = omega (arith, ap length (known_patterns e))
-
   pub known_fits : (n : ℕ) → Fits K n node → known K node ≡ true
   known_fits n f = and_from (ltb node.code K.codes) (eqb (length node.operands) (K.arity node.code)) (lt-ltb node.code K.codes f.in_codes) (eq-eqb (length node.operands) (K.arity node.code) f.full)
 

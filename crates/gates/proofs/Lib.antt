@@ -1,5 +1,3 @@
-pub mod Distinct
-pub mod Evaluating
 pub mod Filling
 pub mod Inserting
 pub mod GateLaw

@@ -1,14 +1,14 @@
 -- A well-formed pattern is short: its literals differ and are over few slots.
-use Rattle.std.proofs.Common.{◌≡◌, ℕ, zero, suc, ◌+◌, ◌*◌, ◌<◌, ◌≤◌, Bool, true, false, not, ◌&&◌, T, List, [], ◌∷◌, map, length, get_or, inl, inr, arith}
+use Rattle.std.proofs.Common.{◌≡◌, ℕ, zero, suc, ◌+◌, ◌*◌, ◌<◌, ◌≤◌, Bool, true, false, not, ◌&&◌, T, List, [], ◌∷◌, map, length, get_or, eqb, arith}
 use lib.ListN.{length-map}
-use Rattle.clauses.specs.Clauses.{Member}
+use Rattle.std.specs.List.{AllByRecursion, IsDistinct, list_any}
+use Rattle.std.proofs.lemmas.Map.Steps.{length-le_from_distinct_below}
 use Rattle.clauses.specs.Literals.{literal_of}
 use Rattle.gates.specs.declared.kinds.Slot.{Slot}
 use Rattle.gates.specs.declared.kinds.Slot.TheVariants.{Operand, Output}
 use Rattle.gates.specs.declared.kinds.SlotLiteral.{SlotLiteral}
 use Rattle.gates.specs.Kinds.{Kind, Sized, past_end, in_place, same_slot, same_sign, same_literal, stands_in, well_formed, all_well_formed}
 use Rattle.gates.specs.Computed.{and_left, and_right}
-use Rattle.gates.proofs.Distinct.{Distinct, few_distinct}
 
 -- slots and their literals as numbers
 abbrev slot_number : Slot → ℕ
@@ -42,30 +42,30 @@ number_below k (Operand i) false t = grind arith
 number_below k Output true t = omega arith
 number_below k Output false t = omega arith
 
-stands : (l : SlotLiteral) (p : List SlotLiteral) → Member (number l) (map number p) → T (stands_in l p)
-stands l [] h = absurd h
-stands l (m ∷ p) (inl e) = let t : T (same_literal l m) = same_number l.slot m.slot l.negated m.negated e in grind arith
-stands l (m ∷ p) (inr h) = let ih : T (stands_in l p) = stands l p h in grind arith
+-- a literal that does not stand in the pattern has a number of its own
+absent : (l : SlotLiteral) (p : List SlotLiteral) → T (not (stands_in l p)) → AllByRecursion (λ n. eqb (number l) n ≡ false) (map number p)
+absent l [] t = tt
+absent l (m ∷ p) t =
+    let same : number l ≡ number m → T (same_literal l m) = same_number l.slot m.slot l.negated m.negated in
+    let rest : T (not (stands_in l p)) = grind arith in
+    (grind (arith, same), absent l p rest)
 
-not_both : (b : Bool) → T (not b) → T b → ⊥
-not_both true t u = t
-not_both false t u = u
-
-distinct_numbers : (k : ℕ) (p : List SlotLiteral) → T (well_formed k p) → Distinct (map number p)
+distinct_numbers : (k : ℕ) (p : List SlotLiteral) → T (well_formed k p) → IsDistinct eqb (map number p)
+unfolding IsDistinct
 distinct_numbers k [] t = tt
 distinct_numbers k (l ∷ p) t =
     let rest : T (not (stands_in l p) && well_formed k p) = and_right (in_place k l.slot) _ t in
-    (λ h. not_both (stands_in l p) (and_left _ _ rest) (stands l p h), distinct_numbers k p (and_right (not (stands_in l p)) _ rest))
+    (absent l p (and_left _ _ rest), distinct_numbers k p (and_right (not (stands_in l p)) _ rest))
 
-numbers_below : (k : ℕ) (p : List SlotLiteral) → T (well_formed k p) → (x : ℕ) → Member x (map number p) → x < 2 * (k + 1)
-numbers_below k [] t x h = absurd h
-numbers_below k (l ∷ p) t x (inl e) =
-    let b : number l < 2 * (k + 1) = number_below k l.slot l.negated (and_left _ _ t) in omega arith
-numbers_below k (l ∷ p) t x (inr h) =
-    numbers_below k p (and_right (not (stands_in l p)) _ (and_right (in_place k l.slot) _ t)) x h
+numbers_below : (k : ℕ) (p : List SlotLiteral) → T (well_formed k p) → (q : ℕ) → list_any (eqb q) (map number p) ≡ true → q < 2 * (k + 1)
+numbers_below k [] t q e = cc
+numbers_below k (l ∷ p) t q e =
+    let b : number l < 2 * (k + 1) = number_below k l.slot l.negated (and_left _ _ t) in
+    let ih : list_any (eqb q) (map number p) ≡ true → q < 2 * (k + 1) = numbers_below k p (and_right (not (stands_in l p)) _ (and_right (in_place k l.slot) _ t)) q in
+    grind (arith, ih)
 
 pub short_pattern : (k : ℕ) (p : List SlotLiteral) → T (well_formed k p) → length p ≤ 2 * (k + 1)
-short_pattern k p t = rw (length-map p number) at (few_distinct (2 * (k + 1)) (map number p) (distinct_numbers k p t) (numbers_below k p t))
+short_pattern k p t = rw (length-map p number) at (length-le_from_distinct_below (map number p) (2 * (k + 1)) (distinct_numbers k p t) (numbers_below k p t))
 
 -- every pattern of a list that is well-formed
 well_formed_at : (k : ℕ) (ps : List (List SlotLiteral)) (i : ℕ) → T (all_well_formed k ps) → T (well_formed k (get_or ps i []))

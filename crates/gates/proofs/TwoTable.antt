@@ -1,7 +1,7 @@
 -- What the static table of the two-input kind holds, read through its references.
 use Rattle.std.proofs.Common.{◌≡◌, ℕ, ◌<◌, ◌≤◌, leb, List, [], map, length, get_or, sym, ap, ◌∙◌, arith, Bor}
 use Rattle.std.proofs.lemmas.List.{length-map, get_or-map}
-use Rattle.std.proofs.lemmas.Bool.{le-leb, lt-leb}
+use Rattle.std.proofs.lemmas.Bool.{le-leb}
 use Rattle.gates.specs.declared.kinds.SlotLiteral.{SlotLiteral}
 use Rattle.gates.specs.Kinds.{invert_if, inverted, past_end}
 use Rattle.gates.specs.TwoInput.{two_input, two_table, two_patterns, table_row}
@@ -16,18 +16,15 @@ module _ (c : ℕ) (h : c < 17) (rows : List (Bor (List SlotLiteral))) (e : map 
   table_count : length rows ≡ length plain
   table_count = sym (length-map rows (λ x. x.now)) ∙ ap length e
 
-  pub count : length rows ≡ length (two_patterns c)
+  count : length rows ≡ length (two_patterns c)
   count = table_count ∙ sym (count_inverted plain (leb 8 c))
-
-  pub count_fits : length rows ≤ 16
-  count_fits = omega (arith, count, two_input_sized.few_patterns c h)
 
   -- what a read past the end of the row would give
   abbrev d : Bor (List SlotLiteral)
   d = record { ref_ptr = (0, 0); now = [] }
 
   module _ (i : ℕ) (k : i < length (two_patterns c)) where
-    pub row_within : i < length rows
+    row_within : i < length rows
     row_within = omega (arith, count)
 
     row_is : (get_or rows i d).now ≡ get_or plain i []
@@ -48,9 +45,6 @@ module _ (c : ℕ) (h : c < 17) (rows : List (Bor (List SlotLiteral))) (e : map 
 
       entry_is : entry ≡ get_or (get_or plain i []) j past_end
       entry_is = ap (λ p. get_or p j past_end) row_is
-
-      pub plain_literal : c < 8 → entry ≡ get_or (get_or (two_patterns c) i []) j past_end
-      plain_literal lt = entry_is ∙ sym (ap (λ b. get_or (get_or (invert_if b plain) i []) j past_end) (lt-leb 8 c lt))
 
       pub inverted_literal : 8 ≤ c → inverted entry ≡ get_or (get_or (two_patterns c) i []) j past_end
       inverted_literal le =

@@ -1,5 +1,5 @@
 -- A literal of a wide gate, from that of 'and' or 'or'.
-use Rattle.std.proofs.Common.{◌≡◌, ℕ, ◌<◌, ◌≤◌, Bool, true, List, [], length, get_or, ap, ◌∙◌, ap₂, arith}
+use Rattle.std.proofs.Common.{◌≡◌, ℕ, ◌<◌, ◌≤◌, true, List, [], length, get_or, ap, ◌∙◌, ap₂, arith}
 use Rattle.gates.specs.declared.kinds.SlotLiteral.{SlotLiteral}
 use Rattle.gates.specs.declared.wide.WideFunction.{WideFunction}
 use Rattle.gates.specs.Kinds.{invert_if, inverted, past_end}

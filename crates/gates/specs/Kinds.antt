@@ -1,5 +1,6 @@
 -- A kind of gate: for each operator code its operands, its truth values, and the patterns of its clauses.
-use Rattle.std.specs.Prelude.{◌≡◌, ℕ, ◌<◌, ◌≤◌, Bool, true, false, cond, not, ◌&&◌, ◌||◌, T, ◌↔◌, List, [], ◌∷◌, map, length, ◌==◌, nat_lt, slice_index_or}
+use Rattle.std.specs.Prelude.{◌≡◌, ℕ, ◌<◌, ◌≤◌, Bool, true, false, cond, not, ◌&&◌, T, ◌↔◌, List, [], ◌∷◌, map, length, ◌==◌, nat_lt, slice_index_or}
+use Rattle.std.specs.List.{list_any, list_all}
 use Rattle.gates.specs.declared.kinds.Slot.{Slot}
 use Rattle.gates.specs.declared.kinds.Slot.TheVariants.{Operand, Output}
 use Rattle.gates.specs.declared.kinds.SlotLiteral.{SlotLiteral}
@@ -23,13 +24,11 @@ slot_literal_value row x l = cond l.negated (not (slot_value row x l.slot)) (slo
 
 -- one literal of the pattern is true
 abbrev pub pattern_holds : List Bool → Bool → List SlotLiteral → Bool
-pattern_holds row x [] = false
-pattern_holds row x (l ∷ p) = slot_literal_value row x l || pattern_holds row x p
+pattern_holds row x p = list_any (slot_literal_value row x) p
 
 -- every pattern of a list holds
 abbrev pub patterns_hold : List Bool → Bool → List (List SlotLiteral) → Bool
-patterns_hold row x [] = true
-patterns_hold row x (p ∷ ps) = pattern_holds row x p && patterns_hold row x ps
+patterns_hold row x ps = list_all (pattern_holds row x) ps
 
 -- the law of a kind: at each row of operand values and each value x of the output, all patterns of the code hold
 -- exactly if x is the row's truth value
@@ -56,8 +55,7 @@ same_literal l m = same_slot l.slot m.slot && same_sign l.negated m.negated
 
 -- the literal stands in the pattern
 abbrev pub stands_in : SlotLiteral → List SlotLiteral → Bool
-stands_in l [] = false
-stands_in l (m ∷ p) = same_literal l m || stands_in l p
+stands_in l p = list_any (same_literal l) p
 
 -- a pattern of an operator with k operands: literals over its operands and its output, none twice
 abbrev pub well_formed : ℕ → List SlotLiteral → Bool
@@ -65,8 +63,7 @@ well_formed k [] = true
 well_formed k (l ∷ p) = in_place k l.slot && (not (stands_in l p) && well_formed k p)
 
 abbrev pub all_well_formed : ℕ → List (List SlotLiteral) → Bool
-all_well_formed k [] = true
-all_well_formed k (p ∷ ps) = well_formed k p && all_well_formed k ps
+all_well_formed k ps = list_all (well_formed k) ps
 
 -- the sizes that a kind keeps to
 pub record Sized (K : Kind) : Type 0 where

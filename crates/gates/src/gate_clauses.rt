@@ -37,13 +37,14 @@ fn place_of(literal: u32, clause: &[u32]) -> usize
         .unwrap_or(clause.len())
 }
 
-// Puts a literal into its place among the first `count` of a clause, once; answers how many there are then.
+// Puts a literal into its place among the first `count` of a clause, once; answers how many there are then. The clause is
+// the front of a caller's buffer, since no memory may be taken here.
 fn insert(literal: u32, clause: &mut [u32], count: usize) -> usize
     requires { count < length clause.old }
     ensures count { result ≡ length (insert literal (take count clause.old)) }
     ensures buffer { clause.new ≡ written_over (insert literal (take count clause.old)) clause.old }
 {
-    let at = place_of(literal, &clause[0..count]);
+    let at = place_of(literal, &clause[..count]);
     if at < count && clause[at] == literal {
         return count;
     }
@@ -100,7 +101,7 @@ pub fn fill_clause<G: GateKind>(
         let literal = put_in(node, output, G::pattern_literal(node.code, index, place));
         count = insert(literal, out, count);
     }
-    kept_length(&out[0..count])
+    kept_length(&out[..count])
 }
 
 // States what the clauses of a gate say, for every kind: the law is this contract.

@@ -73,6 +73,7 @@ fn row_of(count: u8, number: u16) -> Few<bool, 8>
     values
 }
 
+// A truth value as a digit.
 fn digit(value: bool) -> char
     ensures { result ≡ digit value }
 {

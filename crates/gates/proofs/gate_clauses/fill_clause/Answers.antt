@@ -1,25 +1,11 @@
-use Rattle.std.proofs.Common.{◌≤◌, [], length, get_or, sym, ap, ◌∙◌, arith, rules}
+use Rattle.std.proofs.Common.{[], length, get_or, sym, ap, ◌∙◌, arith}
 use Rattle.gates.specs.Kinds.{past_end}
 use Rattle.gates.specs.Nodes.{node_of}
-use Rattle.gates.specs.GateClauses.{put_in, node_patterns, kept_length}
-use Rattle.gates.proofs.Filling.{length_filled, step_count, step_buffer, end_buffer, end_front}
-use Rattle.gates.proofs.Known.{known_code, known_full, known_since, known_within, known_pattern}
+use Rattle.gates.specs.GateClauses.{put_in, node_patterns}
+use Rattle.gates.proofs.Filling.{length_filled, step_count, step_buffer}
+use Rattle.gates.proofs.Known.{known_code, known_full, known_since, known_pattern}
 use Rattle.gates.proofs.PatternSizes.{pattern_short, literal_in_place}
 use Rattle.gates.proofs.gate_clauses.fill_clause.Goals as goal
-
-pub pattern_size-place-end-requires : goal.pattern_size-place-end-requires
-pattern_size-place-end-requires g c =
-    let K = g.G.GateKind.kind in
-    let node = node_of c.args.node.now in
-    let k = known_since K node c.args.index c.requires.within in
-    record { known = known_code K node k; within = known_within K node c.args.index k c.requires.within }
-
-pub pattern_literal-requires : goal.pattern_literal-requires
-pattern_literal-requires g c =
-    let K = g.G.GateKind.kind in
-    let node = node_of c.args.node.now in
-    let k = known_since K node c.args.index c.requires.within in
-    record { known = known_code K node k; within = known_within K node c.args.index k c.requires.within; inside = omega arith }
 
 pub put_in-literal-requires : goal.put_in-literal-requires
 put_in-literal-requires g c =
@@ -49,26 +35,3 @@ loop-place-preserved g c =
       step_count f pattern c.args.out.now c.loop-place.out c.loop-place.place c.loop-place.count c.put_in-literal.result (omega arith) c.loop-place.invariant.0 c.loop-place.invariant.1 literal_is c.insert-count.result c.insert-count.ensures.count,
       step_buffer f pattern c.args.out.now c.loop-place.out c.loop-place.place c.loop-place.count c.put_in-literal.result (omega arith) c.loop-place.invariant.0 c.loop-place.invariant.1 literal_is c.insert-count.new.clause c.insert-count.ensures.buffer,
     )
-
-pub slice_bounds-kept_length-end : goal.slice_bounds-kept_length-end
-slice_bounds-kept_length-end g c =
-    let K = g.G.GateKind.kind in
-    let node = node_of c.args.node.now in
-    let pattern = get_or (node_patterns K node) c.args.index [] in
-    let k = known_since K node c.args.index c.requires.within in
-    let same = ap length (known_pattern K node c.args.index k) in
-    let few : c.loop-place.count ≤ length c.loop-place.out =
-    omega (arith, same, pattern_short K g.met.G.GateKind.sized node.code c.args.index (known_code K node k), length_filled (put_in c.args.output node.operands) pattern c.loop-place.place (omega arith), c.loop-place.invariant.0) in
-    search rules
-
-pub returns : goal.returns
-returns g c =
-    let K = g.G.GateKind.kind in
-    let node = node_of c.args.node.now in
-    let pattern = get_or (node_patterns K node) c.args.index [] in
-    let f = put_in c.args.output node.operands in
-    let same = ap length (known_pattern K node c.args.index (known_since K node c.args.index c.requires.within)) in
-    record {
-      answer = c.kept_length.ensures ∙ ap kept_length (end_front f pattern c.args.out.now c.loop-place.out c.loop-place.place c.loop-place.count (omega (arith, same)) c.loop-place.invariant.0 c.loop-place.invariant.1);
-      buffer = end_buffer f pattern c.args.out.now c.loop-place.out c.loop-place.place c.loop-place.count (omega (arith, same)) c.loop-place.invariant.0 c.loop-place.invariant.1;
-    }

@@ -1,10 +1,6 @@
 use Rattle.std.proofs.Common.{arith}
-use Rattle.gates.proofs.TwoTable.{row_within, size, size_fits}
+use Rattle.gates.proofs.TwoTable.{size, size_fits}
 use Rattle.gates.proofs.two_input.TwoInputGateKind.pattern_size.Goals as goal
-
-pub bounds-table_patterns-index : goal.bounds-table_patterns-index
-bounds-table_patterns-index c =
-    row_within c.args.code c.requires.known c.table_patterns.result.now c.table_patterns.ensures c.args.index c.requires.within
 
 pub overflow_cast-result-2 : goal.overflow_cast-result-2
 overflow_cast-result-2 c =
