@@ -1,9 +1,9 @@
 -- The loops that move cells from the front of one chain to the front of another.
 use Rattle.std.proofs.Common.{◌≡◌, ℕ, ◌<◌, ◌≤◌, true, ◌≢◌, List, [], ◌∷◌, ◌++◌, length, sym, refl, ap, ◌∙◌, arith}
-use Rattle.std.proofs.lemmas.List.{length-set, length-append, length-map, append_assoc, append-nil, nil_from_length}
+use Rattle.std.proofs.lemmas.List.{length-set, length-append, length-map, append_assoc, append-nil}
 use Rattle.books.specs.declared.cells.Cell.{Cell}
 use Rattle.books.specs.Chained.{cell_at, with_cell, chain, ends, times, literals_in, Parted}
-use Rattle.books.proofs.ChainedLinks.{times_cons, times_here, times-append, chain_none, chain_next, Next, chain_besides, cell_other, chain_before}
+use Rattle.books.proofs.ChainedLinks.{times_cons, times_here, chain_none, chain_next, Next, chain_besides, cell_other, chain_before}
 
 -- the front cell of the chain from a goes before the chain from b, and holds x from then on
 pub record Moved (old cs ds : List Cell) (all : List ℕ) (a b x next : ℕ) : Type 0 where
@@ -82,20 +82,3 @@ pub taken_more : (ds cs : List Cell) (lits left rest : List ℕ) (x a b : ℕ) �
     → rest ++ literals_in ds a ≡ lits
 taken_more ds cs lits left rest x a b e f reads =
     ap (λ r. rest ++ r) reads ∙ sym (append_assoc rest (x ∷ []) (literals_in cs b)) ∙ ap (λ r. r ++ literals_in cs b) (sym f) ∙ e
-
-pub taken_all : (cs : List Cell) (lits left : List ℕ) (b : ℕ) → length left ≡ 0 → left ++ literals_in cs b ≡ lits → literals_in cs b ≡ lits
-taken_all cs lits left b none e = ap (λ r. r ++ literals_in cs b) (sym (nil_from_length left none)) ∙ e
-
--- a chain whose cells are given back: before its first cell
-pub given_none : (cs : List Cell) (a b : ℕ) → ends cs a ≡ true → ends cs b ≡ true → Parted cs cs (chain cs a ++ chain cs b) a b
-given_none cs a b e f = record {
-  ends_a = e;
-  ends_b = f;
-  shared = λ i. sym (times-append i (chain cs a) (chain cs b));
-  as_many = sym (length-append (chain cs a) (chain cs b));
-  others = λ i pos out. refl;
-  size = refl;
-}
-
-pub given_all : (old cs : List Cell) (all : List ℕ) (a b : ℕ) → a ≡ 0 → Parted old cs all a b → Parted old cs all 0 b
-given_all old cs all a b z p = rw z at p

@@ -1,29 +1,10 @@
 -- Clauses that lie end to end, and their spans.
-use Rattle.std.proofs.Common.{◌≡◌, ℕ, zero, suc, ◌+◌, ◌-◌, ◌<◌, ◌≤◌, List, [], ◌∷◌, ◌++◌, map, length, get_or, take, drop, Some, None, Option, sym, refl, ap, ◌∙◌, subst, ap₂, arith}
-use lib.Seq.{paste}
+use Rattle.std.proofs.Common.{◌≡◌, ℕ, zero, suc, ◌+◌, ◌-◌, ◌≤◌, List, [], ◌∷◌, ◌++◌, map, length, get_or, take, Some, None, Option, sym, refl, ap, ◌∙◌, subst, ap₂, arith}
 use Rattle.std.specs.Option.{option_map}
-use Rattle.std.proofs.lemmas.List.{append_assoc, length-append, length-drop, length-map, length-take, get_or-append_right, get_or-drop, take_all, take_at, drop_at}
-use Rattle.std.proofs.lemmas.List.Edits.{take-paste}
+use Rattle.std.proofs.lemmas.List.{append_assoc, length-append, take_at, drop_at}
 use Rattle.books.specs.declared.spans.Span.{Span}
 use Rattle.books.specs.Book.{total_size}
-use Rattle.books.specs.Packed.{slots_in, span_of, end_to_end, spans_from, Lays, Short, LaidOut, without, lowered}
-
--- moving the items past a gap down to its start, and cutting the rest off
-pub gap_closed : (xs ys zs : List ℕ) (i n m l : ℕ) → l ≡ length xs → m + n ≡ l → i ≤ m
-    → ys ≡ paste xs i (drop (i + n) xs) (l - (i + n)) → zs ≡ take m ys → zs ≡ without xs i n
-gap_closed xs ys zs i n m l d e le moved cut =
-    let k : m ≡ i + (l - (i + n)) = omega arith in
-    let h : l - (i + n) ≤ length (drop (i + n) xs) = rw length-drop (omega arith) in
-    rw (cut, moved, k) (take-paste xs i (drop (i + n) xs) (l - (i + n)) (omega arith) h
-    ∙ ap (λ r. take i xs ++ r) (take_all (l - (i + n)) (drop (i + n) xs) (rw length-drop (omega arith))))
-
--- a loop that maps in place: what it has yet to reach is as it was
-pub get_or_mapping : {X : Type 0} (f : X → X) (xs ys : List X) (i : ℕ) (d : X) → i < length xs → ys ≡ map f (take i xs) ++ drop i xs
-    → get_or ys i d ≡ get_or xs i d
-get_or_mapping f xs ys i d lt e =
-    let n : length (map f (take i xs)) ≡ i = simp (length-map, length-take) (omega arith) in
-    let z : i + (i - i) ≡ i = omega arith in
-    rw (e, get_or-append_right (map f (take i xs)) (drop i xs) i i d n (omega arith), get_or-drop, z)
+use Rattle.books.specs.Packed.{slots_in, span_of, end_to_end, spans_from, Lays, Short, LaidOut, lowered}
 
 -- how much there is
 pub length_spans : (at : ℕ) (os : List (Option (List ℕ))) → length (spans_from at os) ≡ length os

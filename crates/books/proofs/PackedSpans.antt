@@ -47,10 +47,7 @@ placed ls ss i s ((e, f), g) h =
       long = ap (λ (r : Span). r.length) is;
     }
 
--- it has its place among the spans, and those after it start past it
-pub placed_within : {ls : List ℕ} {ss : List (Option Span)} {i : ℕ} {s : Span} → Placed ls ss i s → i < length ss
-placed_within p = omega (arith, length_spans 0 p.before, p.place, simp length-append at (ap length p.spans))
-
+-- the spans after it start past it
 pub placed_after : {ls : List ℕ} {ss : List (Option Span)} {i : ℕ} {s : Span} → Placed ls ss i s
     → (j : ℕ) (r : Span) → i < j → get_or ss j None ≡ Some r → s.start + s.length ≤ r.start
 placed_after {i = i} {s = s} p j r lt e =

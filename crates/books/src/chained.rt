@@ -1,5 +1,5 @@
 // A clause book whose clauses are chains of cells: the cells of a struck clause are used again.
-ghost use Rattle.std.specs.Prelude.{◌≡◌, ℕ, ◌≤◌, true, ◌∷◌, ◌++◌, length, Some, slice_get};
+ghost use Rattle.std.specs.Prelude.{◌≡◌, ℕ, ◌≤◌, true, ◌∷◌, ◌++◌, length, Some};
 ghost use Rattle.books.specs.Promise.{Sized, max_cells};
 ghost use Rattle.books.specs.Chained.{chain, times, ends, Sound, Short, chained, Parted, literals_in};
 

@@ -1,17 +1,11 @@
-use Rattle.std.proofs.Common.{◌≡◌, ◌+◌, ◌++◌, map, get_or, take, drop, set, Some, None, Option, sym, ap, ◌∙◌, arith, rules}
+use Rattle.std.proofs.Common.{◌≡◌, ◌+◌, ◌++◌, map, get_or, take, drop, set, Some, None, Option, sym, ap, ◌∙◌, arith}
 use Rattle.std.specs.Option.{option_map}
-use Rattle.std.proofs.lemmas.List.{take_all, drop_all, append-nil, get_or_default}
+use Rattle.std.proofs.lemmas.List.{get_or_default}
 use Rattle.std.proofs.lemmas.List.Edits.{map_over_more}
 use Rattle.books.specs.declared.spans.Span.{Span}
 use Rattle.books.specs.Packed.{lowered}
-use Rattle.books.proofs.PackedLayout.{get_or_mapping}
 use Rattle.books.proofs.packed.lower.Goals as goal
 use Rattle.books.proofs.packed.lower.Goals.{in-Some, in_default}
-
-pub overflow_sub-span : goal.overflow_sub-span
-overflow_sub-span c =
-    c.requires c.loop-slot.slot-index c.in-Some.span
-    (sym (get_or_mapping (option_map (lowered c.args.by)) c.args.spans.now c.loop-slot.spans c.loop-slot.slot-index None c.loop-slot-test.true c.loop-slot.invariant) ∙ c.in-Some.is)
 
 -- one slot more, whatever it held
 again : (c : goal.Joined-slot) (o : Option Span) → get_or c.loop-slot.spans c.loop-slot.slot-index None ≡ o
@@ -26,6 +20,3 @@ loop-slot-preserved c = elim c.match-slot.branch [
   | in-Some w ↦ w.spans-is ∙ again c (Some w.in-Some.span) w.in-Some.is
   | in_default w ↦ w.spans-is ∙ ap (set c.loop-slot.spans c.loop-slot.slot-index) w.in_default.is ∙ again c None w.in_default.is
 ]
-
-pub returns : goal.returns
-returns c = search (rules, take_all, drop_all, append-nil)

@@ -1,7 +1,6 @@
 use Rattle.std.proofs.Common.{◌-◌, Some, None, length, vec_items, sym, ap, ◌∙◌, arith, rules}
-use Rattle.std.proofs.lemmas.List.{length-append, length-set}
+use Rattle.std.proofs.lemmas.List.{length-set}
 use Rattle.books.specs.Promise.{strike_answer}
-use Rattle.books.specs.Chained.{chain}
 use Rattle.books.proofs.ChainedHeads.{slot_row}
 use Rattle.books.proofs.ChainedWalks.{counted}
 use Rattle.books.proofs.ChainedBooks.{chained_sized, Found, found, missing, struck_left, struck_means}
@@ -21,19 +20,6 @@ pub give_back-self-requires : goal.give_back-self-requires
 give_back-self-requires c =
     let f = at (goal.at.give_back-self-requires c).In_ok-first in
     record { first = f.goes; free = c.args.self.now.sound.0 0; room = f.apart_free.room; once = f.apart_free.once }
-
-pub overflow_add-self : goal.overflow_add-self
-overflow_add-self c =
-    let b = c.args.self.now in
-    let f = at (goal.at.overflow_add-self c).In_ok-first in
-    let cs = b.table in
-    let long = counted _ _ c.count-length.ensures.ran ∙ ap length c.chain.ensures in
-    omega (arith, f.apart_free.room, slot_row cs (Some c.in_ok-first.first), length-append (chain cs c.in_ok-first.first) (chain cs b.free))
-
-pub clear-requires : goal.clear-requires
-clear-requires c =
-    let f = at (goal.at.clear-requires c).In_ok-first in
-    record { nonzero = f.entry.counted; given = omega (arith, f.entry.within) }
 
 pub invariant_of-self : goal.invariant_of-self
 invariant_of-self c =

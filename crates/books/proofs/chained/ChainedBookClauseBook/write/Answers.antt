@@ -21,11 +21,6 @@ give-requires c =
     let r = room_there c.free_numbers.result c.free_cells.result (length c.args.literals.now) c.in_ok-check_room.ensures in
     omega (arith, free_numbers_is c.args.self.now)
 
-pub overflow_sub-self : goal.overflow_sub-self
-overflow_sub-self c =
-    let r = room_there c.free_numbers.result c.free_cells.result (length c.args.literals.now) c.in_ok-check_room.ensures in
-    omega (arith, free_cells_is c.args.self.now)
-
 pub invariant_of-self : goal.invariant_of-self
 invariant_of-self c =
     let r = room_there c.free_numbers.result c.free_cells.result (length c.args.literals.now) c.in_ok-check_room.ensures in

@@ -18,14 +18,10 @@ returns-in_err-span c = let m = missing c.args.self.now c.args.number _ c.in_err
 pub close_gap-requires : goal.close_gap-requires
 close_gap-requires c = (at (goal.at.close_gap-requires c).In_ok-span).fits
 
-pub clear_span-requires : goal.clear_span-requires
-clear_span-requires c =
-    let f = at (goal.at.clear_span-requires c).In_ok-span in
-    record {
-      nonzero = f.entry.counted;
-      given = omega (arith, f.entry.within);
-      above = λ i s le e. omega (arith, f.entry.counted, placed_after f.span i s (omega (arith, f.entry.counted)) e);
-    }
+pub clear_span-requires-clause-above : goal.clear_span-requires-clause-above
+clear_span-requires-clause-above c i s le e =
+    let f = at (goal.at.clear_span-requires-clause-above c).In_ok-span in
+    omega (arith, f.entry.counted, placed_after f.span i s (omega (arith, f.entry.counted)) e)
 
 pub invariant_of-self : goal.invariant_of-self
 invariant_of-self c =
