@@ -4,5 +4,4 @@ pub mod Rising
 pub mod Merges
 pub mod Clashes
 pub mod JoiningLaw
-pub mod Steps
 pub mod Writing

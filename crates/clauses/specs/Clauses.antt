@@ -1,5 +1,6 @@
 -- A clause is a list of literals, and holds where one of them is true.
 use Rattle.std.specs.Prelude.{◌≡◌, ℕ, ◌<◌, Bool, true, false, ◌&&◌, ◌||◌, ◌⊎◌, List, [], ◌∷◌, ◌==◌}
+use Rattle.std.specs.List.{list_any}
 use Rattle.clauses.specs.Literals.{signal, literal_value}
 
 -- one literal of the clause is true under the values of the signals
@@ -19,8 +20,7 @@ Member c (x ∷ xs) = (c ≡ x) ⊎ Member c xs
 
 -- the same as a test
 abbrev pub member : ℕ → List ℕ → Bool
-member c [] = false
-member c (x ∷ xs) = c == x || member c xs
+member c xs = list_any (λ x. x == c) xs
 
 -- the signals rise from above s on
 abbrev pub RisingAbove : ℕ → List ℕ → Type 0

@@ -30,14 +30,17 @@ impl Meeting {
         }
     }
 
-    // How many literals of the left and of the right list are read with it.
-    fn used(self) -> (usize, usize)
-        ensures { result ≡ used self }
+    // What is left of the two lists behind the literals that are read with it.
+    fn behind<'a>(self, left: &'a [u32], right: &'a [u32]) -> (&'a [u32], &'a [u32])
+        requires left { 1 ≤ length left.now }
+        requires right { 1 ≤ length right.now }
+        ensures left { result.0.now ≡ drop (used self).0 left.now }
+        ensures right { result.1.now ≡ drop (used self).1 right.now }
     {
         match self {
-            Meeting::Same | Meeting::Clash => (1, 1),
-            Meeting::LeftFirst => (1, 0),
-            Meeting::RightFirst => (0, 1),
+            Meeting::Same | Meeting::Clash => (&left[1..], &right[1..]),
+            Meeting::LeftFirst => (&left[1..], right),
+            Meeting::RightFirst => (left, &right[1..]),
         }
     }
 }
@@ -71,16 +74,13 @@ pub fn pivot(left: &[u32], right: &[u32]) -> Result<u32, Refusal>
     ensures { result ≡ only (clashes left.now right.now) }
 {
     let mut found = None;
-    let mut i = 0;
-    let mut j = 0;
-    while i < left.len() && j < right.len() {
-        let meeting = compare(left[i], right[j]);
+    let (mut lefts, mut rights) = (left, right);
+    while let (Some(l), Some(r)) = (lefts.first(), rights.first()) {
+        let meeting = compare(*l, *r);
         if let Meeting::Clash = meeting {
-            found = Some(first_clash(found, left[i])?);
+            found = Some(first_clash(found, *l)?);
         }
-        let (lefts, rights) = meeting.used();
-        i += lefts;
-        j += rights;
+        (lefts, rights) = meeting.behind(lefts, rights);
     }
     found.ok_or(Refusal::NoClash)
 }
@@ -91,21 +91,18 @@ pub fn merge(left: &[u32], right: &[u32], out: &mut [u32]) -> usize
     ensures count { result ≡ length (merged left.now right.now) }
     ensures buffer { out.new ≡ written_over (merged left.now right.now) out.old }
 {
-    let mut i = 0;
-    let mut j = 0;
     let mut count = 0;
-    while i < left.len() && j < right.len() {
-        let meeting = compare(left[i], right[j]);
-        if let Some(literal) = meeting.kept(left[i], right[j]) {
+    let (mut lefts, mut rights) = (left, right);
+    while let (Some(l), Some(r)) = (lefts.first(), rights.first()) {
+        let meeting = compare(*l, *r);
+        if let Some(literal) = meeting.kept(*l, *r) {
             out[count] = literal;
             count += 1;
         }
-        let (lefts, rights) = meeting.used();
-        i += lefts;
-        j += rights;
+        (lefts, rights) = meeting.behind(lefts, rights);
     }
-    count = copy_at(&left[i..], out, count);
-    copy_at(&right[j..], out, count)
+    count = copy_at(lefts, out, count);
+    copy_at(rights, out, count)
 }
 
 // Joins two clauses that clash on exactly one signal; refused, `out` stays as it was.
@@ -121,5 +118,4 @@ pub fn join(left: &[u32], right: &[u32], out: &mut [u32]) -> Result<usize, Refus
 // States what joining means for clauses: the law is this contract.
 pub fn joining_law()
     ensures { JoiningLaw }
-{
-}
+{}

@@ -6,10 +6,8 @@ pub mod GateLaw
 pub mod InstanceLaw
 pub mod InstanceShape
 pub mod Inverting
-pub mod Opposing
 pub mod PatternSizes
 pub mod Known
-pub mod Rows
 pub mod TwoTable
 pub mod WideLiterals
 pub mod WidePlaces

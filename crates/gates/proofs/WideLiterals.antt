@@ -1,5 +1,5 @@
 -- A literal of a wide gate, from that of 'and' or 'or'.
-use Rattle.std.proofs.Common.{◌≡◌, ℕ, ◌<◌, ◌≤◌, Bool, true, List, [], length, get_or, sym, ap, ◌∙◌, subst, arith}
+use Rattle.std.proofs.Common.{◌≡◌, ℕ, ◌<◌, ◌≤◌, Bool, true, List, [], length, get_or, ap, ◌∙◌, ap₂, arith}
 use Rattle.gates.specs.declared.kinds.SlotLiteral.{SlotLiteral}
 use Rattle.gates.specs.declared.wide.WideFunction.{WideFunction}
 use Rattle.gates.specs.Kinds.{invert_if, inverted, past_end}
@@ -10,12 +10,9 @@ use Rattle.gates.proofs.WidePlaces.{plain_count}
 abbrev wide_patterns : ℕ → List (List SlotLiteral)
 wide_patterns code = function_patterns (function code) (wide_arity code)
 
-module _ (code i j : ℕ) (within : i < length (wide_patterns code)) (inside : j < length (get_or (wide_patterns code) i [])) (f : WideFunction) (o : Bool) (f_is : f ≡ function code) (o_is : o ≡ disjunctive f) where
+module _ (code i j : ℕ) (within : i < length (wide_patterns code)) (inside : j < length (get_or (wide_patterns code) i [])) (f : WideFunction) (f_is : f ≡ function code) (k : ℕ) (k_is : k ≡ wide_arity code) where
   abbrev plain : List (List SlotLiteral)
   plain = plain_patterns (disjunctive (function code)) (wide_arity code)
-
-  flag_is : o ≡ disjunctive (function code)
-  flag_is = o_is ∙ ap disjunctive f_is
 
   plain_within : i < length plain
   plain_within = omega (arith, count_inverted plain (inverting (function code)))
@@ -23,14 +20,14 @@ module _ (code i j : ℕ) (within : i < length (wide_patterns code)) (inside : j
   plain_inside : j < length (get_or plain i [])
   plain_inside = omega (arith, size_inverted plain i plain_within (inverting (function code)))
 
-  pub index_within : i ≤ wide_arity code
+  pub index_within : i ≤ k
   index_within = omega (arith, plain_within, plain_count (disjunctive (function code)) (wide_arity code))
 
-  pub place_inside : j < length (get_or (plain_patterns o (wide_arity code)) i [])
-  place_inside = subst (λ (b : Bool). j < length (get_or (plain_patterns b (wide_arity code)) i [])) (sym flag_is) plain_inside
+  pub place_inside : j < length (get_or (plain_patterns (disjunctive f) k) i [])
+  place_inside = rw (f_is, k_is) plain_inside
 
-  pub inverted_is : true ≡ inverting f → inverted (get_or (get_or (plain_patterns o (wide_arity code)) i []) j past_end) ≡ get_or (get_or (wide_patterns code) i []) j past_end
+  pub inverted_is : true ≡ inverting f → inverted (get_or (get_or (plain_patterns (disjunctive f) k) i []) j past_end) ≡ get_or (get_or (wide_patterns code) i []) j past_end
   inverted_is e =
-      ap (λ b. inverted (get_or (get_or (plain_patterns b (wide_arity code)) i []) j past_end)) flag_is
+      ap₂ (λ g n. inverted (get_or (get_or (plain_patterns (disjunctive g) n) i []) j past_end)) f_is k_is
       ∙ literal_inverted plain i plain_within j plain_inside
       ∙ ap (λ b. get_or (get_or (invert_if b plain) i []) j past_end) (e ∙ ap inverting f_is)

@@ -1,6 +1,6 @@
 -- The clauses of a node: its operator's patterns with signals put in.
-use Rattle.std.specs.Prelude.{◌≡◌, ℕ, ◌<◌, ◌≤◌, Bool, false, cond, not, ◌||◌, T, ◌↔◌, List, [], ◌∷◌, map, length, Some, None, filter, Option, ◌==◌, nat_lt, slice_index, slice_index_or}
-use Rattle.std.specs.List.{AllByRecursion}
+use Rattle.std.specs.Prelude.{◌≡◌, ℕ, ◌<◌, ◌≤◌, Bool, cond, not, T, ◌↔◌, List, [], ◌∷◌, map, length, Some, None, filter, Option, ◌==◌, nat_lt, slice_index, slice_index_or}
+use Rattle.std.specs.List.{AllByRecursion, list_any}
 use Rattle.clauses.specs.Literals.{signal, literal_of, flip}
 use Rattle.clauses.specs.Clauses.{all_hold, Member, member, Rising}
 use Rattle.gates.specs.declared.kinds.Slot.{Slot}
@@ -42,8 +42,7 @@ instance_of K z node i = instance z node.operands (slice_index_or (node_patterns
 
 -- a literal of the first list stands the other way round in the second
 abbrev pub opposed : List ℕ → List ℕ → Bool
-opposed [] cs = false
-opposed (l ∷ ls) cs = member (flip l) cs || opposed ls cs
+opposed ls cs = list_any (λ l. member (flip l) cs) ls
 
 -- a signal stands both ways in the list, so that it is true under all values
 abbrev pub both_ways : List ℕ → Bool

@@ -1,6 +1,6 @@
 -- 'And', 'or', 'nand' and 'nor' of one to eight operands.
-use Rattle.std.specs.Prelude.{ℕ, ◌+◌, ◌/◌, ◌%◌, Bool, true, false, cond, not, ◌&&◌, ◌||◌, List, [], ◌∷◌, ◌++◌, map, ◌==◌}
-use Rattle.std.specs.List.{range_with_len}
+use Rattle.std.specs.Prelude.{ℕ, ◌+◌, ◌/◌, ◌%◌, Bool, true, false, cond, not, List, [], ◌∷◌, ◌++◌, map, ◌==◌}
+use Rattle.std.specs.List.{range_with_len, list_all, list_any}
 use Rattle.gates.specs.declared.kinds.Slot.TheVariants.{Operand, Output}
 use Rattle.gates.specs.declared.kinds.SlotLiteral.{SlotLiteral}
 use Rattle.gates.specs.declared.wide.WideFunction.{WideFunction}
@@ -29,13 +29,13 @@ inverting Or = false
 inverting Nand = true
 inverting Nor = true
 
+-- all operands are on
 abbrev pub all_on : List Bool → Bool
-all_on [] = true
-all_on (b ∷ bs) = b && all_on bs
+all_on row = list_all (λ b. b) row
 
+-- one operand is on
 abbrev pub any_on : List Bool → Bool
-any_on [] = false
-any_on (b ∷ bs) = b || any_on bs
+any_on row = list_any (λ b. b) row
 
 abbrev pub wide_value : WideFunction → List Bool → Bool
 wide_value And row = all_on row

@@ -19,7 +19,7 @@ fn put_in(node: &NodeRecord, output: u16, slot_literal: SlotLiteral) -> u32
     ensures { result ≡ put_in output (node_of node.now).operands slot_literal }
 {
     let signal = match slot_literal.slot {
-        Slot::Operand(i) => node.operands[i as usize],
+        Slot::Operand(i) => node.operands.as_slice()[i as usize],
         Slot::Output => output,
     };
     literal_of(signal, slot_literal.negated)
@@ -31,12 +31,10 @@ fn place_of(literal: u32, clause: &[u32]) -> usize
     ensures before { (k : ℕ) → k < result → slice_index clause.now k < literal }
     ensures reached { result < length clause.now → literal ≤ slice_index clause.now result }
 {
-    for (at, other) in clause.iter().enumerate() {
-        if *other >= literal {
-            return at;
-        }
-    }
-    clause.len()
+    clause
+        .iter()
+        .position(|other| *other >= literal)
+        .unwrap_or(clause.len())
 }
 
 // Puts a literal into its place among the first `count` of a clause, once; answers how many there are then.
@@ -58,12 +56,9 @@ fn insert(literal: u32, clause: &mut [u32], count: usize) -> usize
 fn both_ways(clause: &[u32]) -> bool
     ensures { result ≡ both_ways clause.now }
 {
-    for literal in clause {
-        if clause.contains(&flip(*literal)) {
-            return true;
-        }
-    }
-    false
+    clause
+        .iter()
+        .any(|literal| clause.contains(&flip(*literal)))
 }
 
 // The length of an instance, or nothing where it is left out since a signal stands both ways in it.
@@ -109,8 +104,6 @@ pub fn fill_clause<G: GateKind>(
 }
 
 // States what the clauses of a gate say, for every kind: the law is this contract.
-pub fn gate_law<G: GateKind>() -> u8
+pub fn gate_law<G: GateKind>()
     ensures { GateLaw G.GateKind.kind }
-{
-    0
-}
+{}

@@ -1,5 +1,5 @@
 // What a gate kind is: operator codes with a truth table and patterns of clauses, and the law that ties the two.
-ghost use Rattle.std.specs.Prelude.{◌≡◌, ◌<◌, [], length, slice_index_or};
+ghost use Rattle.std.specs.Prelude.{◌≡◌, ℕ, ◌<◌, [], length, slice_index_or};
 ghost use Rattle.gates.specs.Kinds.{Kind, Lawful, Sized, past_end, inverted};
 
 // A place in a pattern: one of the operands, counted from 0, or the output.
@@ -31,17 +31,18 @@ impl SlotLiteral {
     }
 }
 
-// A kind of gate; whoever adds one shows the two laws.
+// A kind of gate; whoever adds one shows the laws.
+// Codes are numbers here: the check makes no proof of an impl whose functions take a type that has the trait as a bound
+// on the impl's own type, so a type of known codes could stand only above the trait, and would repeat its functions.
 pub trait GateKind {
     // How many operator codes the kind has, counted from 0.
     const CODES: u8;
 
+    // The constant, for clauses.
+    ghost CODES: { ℕ };
+
     // The codes, and for each code its operand count, truth values and patterns.
     ghost kind: { Kind };
-
-    // `CODES`, tied to the promises: a clause cannot cite the constant itself.
-    fn code_count() -> u8
-        ensures { result ≡ kind.codes };
 
     fn operand_count(code: u8) -> u8
         requires { code < kind.codes }
@@ -69,14 +70,15 @@ pub trait GateKind {
         requires inside { place < length (slice_index_or (kind.patterns code) index []) }
         ensures { result ≡ slice_index_or (slice_index_or (kind.patterns code) index []) place past_end };
 
+    // The constant is the number that the kind's definition gives.
+    ghost counted: { CODES ≡ kind.codes };
+
     ghost lawful: { Lawful kind };
 
     ghost sized: { Sized kind };
 }
 
 // States the law of a kind for every code, row and output value: the law is this contract.
-pub fn kind_law<G: GateKind>() -> u8
+pub fn kind_law<G: GateKind>()
     ensures { Lawful G.GateKind.kind }
-{
-    0
-}
+{}

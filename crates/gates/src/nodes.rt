@@ -1,51 +1,39 @@
 // Nodes: an operator applied to earlier signals, and the values of signals.
-ghost use Rattle.std.specs.Prelude.{◌≡◌, ◌+◌, ◌≤◌, map, length, take};
+ghost use Rattle.std.specs.Prelude.{◌≡◌, ◌+◌, map, length, take};
+ghost use Rattle.clauses.specs.Few.{items_of};
 ghost use Rattle.gates.specs.Nodes.{node_of, known, value_at, operand_row, node_value, values_of};
 
 use crate::kinds::GateKind;
 use crate::records::NodeRecord;
-
-impl NodeRecord {
-    // The record of a code on at most eight operands.
-    pub fn new(code: u8, operands: &[u16]) -> NodeRecord
-        requires { length operands.now ≤ 8 }
-        ensures { node_of result ≡ record { code = code; operands = operands.now } }
-    {
-        let mut kept = [0; 8];
-        kept[0..operands.len()].copy_from_slice(operands);
-        NodeRecord {
-            code,
-            count: operands.len() as u8,
-            operands: kept,
-        }
-    }
-}
+use clauses::few::Few;
 
 // Whether the kind has the node's code, with as many operands.
 pub fn known<G: GateKind>(node: &NodeRecord) -> bool
     ensures { result ≡ known G.GateKind.kind (node_of node.now) }
 {
-    node.code < G::code_count() && node.count == G::operand_count(node.code)
+    node.code < G::CODES && node.operands.len() == usize::from(G::operand_count(node.code))
 }
 
 // The value of a signal, counted from 1; of any other, off.
 pub fn value_at(values: &[bool], signal: u16) -> bool
     ensures { result ≡ value_at values.now signal }
 {
-    let count = values.len();
-    if signal == 0 || signal as usize > count {
-        return false;
+    match signal {
+        0 => false,
+        _ => values
+            .get(usize::from(signal) - 1)
+            .copied()
+            .unwrap_or(false),
     }
-    values[signal as usize - 1]
 }
 
-// The values of a node's operands, at the front of the row.
-fn operand_row(node: &NodeRecord, values: &[bool]) -> [bool; 8]
-    ensures { take node.now.count result ≡ operand_row (node_of node.now) values.now }
+// The values of a node's operands.
+fn operand_row(node: &NodeRecord, values: &[bool]) -> Few<bool, 8>
+    ensures { items_of result ≡ operand_row (node_of node.now) values.now }
 {
-    let mut row = [false; 8];
-    for j in 0..node.count as usize {
-        row[j] = value_at(values, node.operands[j]);
+    let mut row = Few::new();
+    for signal in node.operands.as_slice() {
+        row.push(value_at(values, *signal));
     }
     row
 }
@@ -54,11 +42,7 @@ fn operand_row(node: &NodeRecord, values: &[bool]) -> [bool; 8]
 fn node_value<G: GateKind>(node: &NodeRecord, values: &[bool]) -> bool
     ensures { result ≡ node_value G.GateKind.kind (node_of node.now) values.now }
 {
-    if !known::<G>(node) {
-        return false;
-    }
-    let row = operand_row(node, values);
-    G::value(node.code, &row[0..node.count as usize])
+    known::<G>(node) && G::value(node.code, operand_row(node, values).as_slice())
 }
 
 // Works out all nodes in order: `values` has those of the first signals, `start` of them, and gets those of the nodes behind.
@@ -66,10 +50,9 @@ pub fn evaluate<G: GateKind>(nodes: &[NodeRecord], start: usize, values: &mut [b
     requires { length values.old ≡ start + length nodes.now }
     ensures { values.new ≡ values_of G.GateKind.kind (map node_of nodes.now) (take start values.old) }
 {
-    let mut at = start;
-    for node in nodes {
-        let value = node_value::<G>(node, &values[0..at]);
+    for (i, node) in nodes.iter().enumerate() {
+        let at = start + i;
+        let value = node_value::<G>(node, &values[..at]);
         values[at] = value;
-        at += 1;
     }
 }

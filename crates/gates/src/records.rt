@@ -1,11 +1,29 @@
 // The record in which a node is kept.
-ghost use Rattle.std.specs.Prelude.{◌≤◌};
+ghost use Rattle.std.specs.Prelude.{◌≡◌, ◌≤◌, length};
+ghost use Rattle.gates.specs.Nodes.{node_of};
 
-// A code and its first `count` operands, which are signals; the other places mean nothing.
+use clauses::few::Few;
+
+// A code and the signals that are its operands, at most eight.
 #[derive(Clone, Copy)]
 pub struct NodeRecord {
     pub code: u8,
-    pub count: u8,
-    pub operands: [u16; 8],
-    ghost few: { count ≤ 8 },
+    pub operands: Few<u16, 8>,
+}
+
+impl NodeRecord {
+    // The record of a code on at most eight operands.
+    pub fn new(code: u8, operands: &[u16]) -> NodeRecord
+        requires { length operands.now ≤ 8 }
+        ensures { node_of result ≡ record { code = code; operands = operands.now } }
+    {
+        let mut kept = Few::new();
+        for operand in operands {
+            kept.push(*operand);
+        }
+        NodeRecord {
+            code,
+            operands: kept,
+        }
+    }
 }

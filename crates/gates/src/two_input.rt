@@ -1,5 +1,5 @@
 // The sixteen operators of two operands, and 'not'.
-ghost use Rattle.std.specs.Prelude.{◌≡◌, ◌<◌, [], map, slice_index_or};
+ghost use Rattle.std.specs.Prelude.{◌≡◌, ◌<◌, [], map, slice_index_or, refl};
 ghost use Rattle.gates.specs.TwoInput.{two_input, two_table, table_row};
 ghost use Rattle.gates.specs.KindLaws.{two_input_lawful, two_input_sized};
 
@@ -77,15 +77,15 @@ pub struct TwoInput;
 impl GateKind for TwoInput {
     const CODES: u8 = 17;
 
+    ghost CODES = { 17 };
+
     ghost kind = { two_input };
+
+    ghost counted = { refl };
 
     ghost lawful = { two_input_lawful };
 
     ghost sized = { two_input_sized };
-
-    fn code_count() -> u8 {
-        Self::CODES
-    }
 
     fn operand_count(code: u8) -> u8 {
         if code < 16 { 2 } else { 1 }

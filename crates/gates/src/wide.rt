@@ -1,7 +1,7 @@
 // 'And', 'or', 'nand' and 'nor' of one to eight operands.
-ghost use Rattle.std.specs.Prelude.{◌≡◌, ◌<◌, ◌≤◌, [], length, slice_index_or};
+ghost use Rattle.std.specs.Prelude.{◌≡◌, ◌<◌, ◌≤◌, [], length, slice_index_or, refl};
 ghost use Rattle.gates.specs.Kinds.{past_end};
-ghost use Rattle.gates.specs.WideGates.{wide, function, disjunctive, inverting, all_on, any_on, plain_patterns};
+ghost use Rattle.gates.specs.WideGates.{wide, function, disjunctive, inverting, wide_value, plain_patterns};
 ghost use Rattle.gates.specs.KindLaws.{wide_lawful, wide_sized};
 
 use crate::kinds::{GateKind, Slot, SlotLiteral};
@@ -15,10 +15,10 @@ pub enum WideFunction {
     Nor,
 }
 
-impl WideFunction {
-    fn of(code: u8) -> WideFunction
-        ensures { result ≡ function code }
-    {
+impl From<u8> for WideFunction {
+    ghost from_gives = { λ code f. f ≡ function code };
+
+    fn from(code: u8) -> WideFunction {
         match code / 8 {
             0 => WideFunction::And,
             1 => WideFunction::Or,
@@ -26,48 +26,55 @@ impl WideFunction {
             _ => WideFunction::Nor,
         }
     }
+}
 
+impl WideFunction {
     // Whether it asks for one operand rather than for all.
     fn disjunctive(self) -> bool
         ensures { result ≡ disjunctive self }
     {
-        match self {
-            WideFunction::And | WideFunction::Nand => false,
-            WideFunction::Or | WideFunction::Nor => true,
-        }
+        matches!(self, WideFunction::Or | WideFunction::Nor)
     }
 
     // Whether it gives the opposite of what it asks for.
     fn inverting(self) -> bool
         ensures { result ≡ inverting self }
     {
+        matches!(self, WideFunction::Nand | WideFunction::Nor)
+    }
+
+    // Its value on a row of operand values.
+    fn value(self, row: &[bool]) -> bool
+        ensures { result ≡ wide_value self row.now }
+    {
         match self {
-            WideFunction::And | WideFunction::Or => false,
-            WideFunction::Nand | WideFunction::Nor => true,
+            WideFunction::And => row.iter().all(|on| *on),
+            WideFunction::Or => row.iter().any(|on| *on),
+            WideFunction::Nand => !row.iter().all(|on| *on),
+            WideFunction::Nor => !row.iter().any(|on| *on),
         }
     }
-}
 
-fn all_on(row: &[bool]) -> bool
-    ensures { result ≡ all_on row.now }
-{
-    for on in row {
-        if !*on {
-            return false;
-        }
+    // The literal at a place of a pattern, on so many operands, before it is inverted.
+    fn plain_literal(self, operands: u8, index: u8, place: u8) -> SlotLiteral
+        requires within { index ≤ operands }
+        requires inside { place < length (slice_index_or (plain_patterns (disjunctive self) operands) index []) }
+        ensures { result ≡ slice_index_or (slice_index_or (plain_patterns (disjunctive self) operands) index []) place past_end }
+    {
+        let any = self.disjunctive();
+        let (slot, negated) = if index < operands {
+            if place == 0 {
+                (Slot::Operand(index), any)
+            } else {
+                (Slot::Output, !any)
+            }
+        } else if place < operands {
+            (Slot::Operand(place), !any)
+        } else {
+            (Slot::Output, any)
+        };
+        SlotLiteral { slot, negated }
     }
-    true
-}
-
-fn any_on(row: &[bool]) -> bool
-    ensures { result ≡ any_on row.now }
-{
-    for on in row {
-        if *on {
-            return true;
-        }
-    }
-    false
 }
 
 #[derive(Clone, Copy)]
@@ -76,77 +83,40 @@ pub struct Wide;
 impl GateKind for Wide {
     const CODES: u8 = 32;
 
+    ghost CODES = { 32 };
+
     ghost kind = { wide };
+
+    ghost counted = { refl };
 
     ghost lawful = { wide_lawful };
 
     ghost sized = { wide_sized };
-
-    fn code_count() -> u8 {
-        Self::CODES
-    }
 
     fn operand_count(code: u8) -> u8 {
         code % 8 + 1
     }
 
     fn value(code: u8, row: &[bool]) -> bool {
-        let function = WideFunction::of(code);
-        let asked = if function.disjunctive() {
-            any_on(row)
-        } else {
-            all_on(row)
-        };
-        asked != function.inverting()
+        WideFunction::from(code).value(row)
     }
 
     fn pattern_count(code: u8) -> u8 {
-        code % 8 + 2
+        Self::operand_count(code) + 1
     }
 
     fn pattern_size(code: u8, index: u8) -> u8 {
-        let operands = code % 8 + 1;
+        let operands = Self::operand_count(code);
         if index < operands { 2 } else { operands + 1 }
     }
 
     fn pattern_literal(code: u8, index: u8, place: u8) -> SlotLiteral {
-        let function = WideFunction::of(code);
-        let literal = plain_literal(function.disjunctive(), code % 8 + 1, index, place);
+        let function = WideFunction::from(code);
+        let literal = function.plain_literal(Self::operand_count(code), index, place);
         if function.inverting() {
             literal.inverted()
         } else {
             literal
-        }
-    }
-}
-
-// The literal at a place of a pattern of 'and', or of 'or' where `any`, of so many operands.
-fn plain_literal(any: bool, operands: u8, index: u8, place: u8) -> SlotLiteral
-    requires within { index ≤ operands }
-    requires inside { place < length (slice_index_or (plain_patterns any operands) index []) }
-    ensures { result ≡ slice_index_or (slice_index_or (plain_patterns any operands) index []) place past_end }
-{
-    if index < operands {
-        if place == 0 {
-            SlotLiteral {
-                slot: Slot::Operand(index),
-                negated: any,
-            }
-        } else {
-            SlotLiteral {
-                slot: Slot::Output,
-                negated: !any,
-            }
-        }
-    } else if place < operands {
-        SlotLiteral {
-            slot: Slot::Operand(place),
-            negated: !any,
-        }
-    } else {
-        SlotLiteral {
-            slot: Slot::Output,
-            negated: any,
         }
     }
 }

@@ -1,51 +1,44 @@
 -- Texts that grow part by part.
-use Rattle.std.proofs.Common.{◌≡◌, ℕ, suc, ◌+◌, ◌<◌, ◌≤◌, Bool, true, false, cond, ltb, List, [], ◌∷◌, ◌++◌, map, length, get_or, take, is_ok, Ok, Err, codes, Result, sym, refl, ap, ◌∙◌, ap₂, arith}
-use Rattle.std.proofs.lemmas.List.{append_assoc, append-nil, map_more, length-map, length-take-le, take_all}
-use Rattle.std.proofs.lemmas.Bool.{lt-ltb}
-use Rattle.std.specs.List.{range_with_len}
-use Rattle.std.proofs.lemmas.List.FromFn.{map-range_with_len_more}
+use Rattle.std.proofs.Common.{◌≡◌, ℕ, ◌+◌, ◌<◌, ◌≤◌, Bool, true, false, List, [], ◌∷◌, ◌++◌, map, length, get_or, take, codes, sym, refl, ap, ◌∙◌, ap₂, arith}
+use Rattle.std.proofs.lemmas.List.{append_assoc, append-nil, flat_map_more, take_more, length-take-le}
+use Rattle.std.specs.List.{range_with_len, join_by}
+use Rattle.std.proofs.lemmas.List.FromFn.{length-map-range_with_len, map-range_with_len_more}
 use lib.Utf8.{encode}
-use Rattle.operators.specs.Text.{Appends, behind, joined_by, digit}
+use Rattle.operators.specs.Text.{row, digit}
 
--- a part that is certain, then one that memory may fail
-pub then_part : {R E : Type 0} (r : Result R E) (before mid after a x : List ℕ) → mid ≡ before ++ a → after ≡ cond (is_ok r) (mid ++ x) mid → Appends r before after (a ++ x)
-then_part (Ok y) before mid after a x e f = f ∙ ap (λ t. t ++ x) e ∙ append_assoc before a x
-then_part (Err y) before mid after a x e f = tt
+module _ {X : Type 0} (f : X → List ℕ) (separator : List ℕ) where
+  abbrev joined : List X → List ℕ
+  joined xs = join_by f separator xs
 
-behind_push : (separator : List ℕ) (ts : List (List ℕ)) (t : List ℕ) → behind separator (ts ++ t ∷ []) ≡ behind separator ts ++ (separator ++ t)
-behind_push separator [] t = append-nil (separator ++ t)
-behind_push separator (s ∷ ts) t = ap (λ u. (separator ++ s) ++ u) (behind_push separator ts t) ∙ sym (append_assoc (separator ++ s) (behind separator ts) (separator ++ t))
+  push_first : (xs : List X) (x : X) → length xs ≤ 0 → joined (xs ++ x ∷ []) ≡ joined xs ++ f x
+  push_first [] x h = append-nil (f x)
+  push_first (y ∷ ys) x h = absurd (omega arith)
 
-joined_push : (separator : List ℕ) (ts : List (List ℕ)) (t : List ℕ) → joined_by separator (ts ++ t ∷ []) ≡ (joined_by separator ts ++ cond (ltb 0 (length ts)) separator []) ++ t
-joined_push separator [] t = append-nil t
-joined_push separator (s ∷ ts) t =
-    ap (λ u. s ++ u) (behind_push separator ts t)
-    ∙ sym (append_assoc s (behind separator ts) (separator ++ t))
-    ∙ sym (append_assoc (s ++ behind separator ts) separator t)
-    ∙ ap (λ b. ((s ++ behind separator ts) ++ cond b separator []) ++ t) (sym (lt-ltb 0 (suc (length ts)) (omega arith)))
+  push_more : (xs : List X) (x : X) → 0 < length xs → joined (xs ++ x ∷ []) ≡ (joined xs ++ separator) ++ f x
+  push_more [] x h = absurd (omega arith)
+  push_more (y ∷ ys) x h =
+      sym (flat_map_more (λ y. separator ++ f y) (f y) ys x) ∙ sym (append_assoc (joined (y ∷ ys)) separator (f x))
 
-module _ {X : Type 0} (f : X → List ℕ) (separator : List ℕ) (xs : List X) where
-  -- the first i parts, with separators
-  abbrev pub joined_first : ℕ → List ℕ
-  joined_first i = joined_by separator (map f (take i xs))
+  -- one part more, behind a separator if it is not the first
+  module _ (xs : List X) (i : ℕ) (d : X) (before old mid new : List ℕ) (h : i < length xs) (e : old ≡ before ++ joined (take i xs)) (n : new ≡ mid ++ f (get_or xs i d)) where
+    pub joined_first : i ≤ 0 → mid ≡ old → new ≡ before ++ joined (take (i + 1) xs)
+    joined_first k m =
+        let p = push_first (take i xs) (get_or xs i d) (omega (arith, length-take-le i xs (omega arith))) in
+        n
+        ∙ ap (λ t. t ++ f (get_or xs i d)) (m ∙ e)
+        ∙ append_assoc before (joined (take i xs)) (f (get_or xs i d))
+        ∙ ap (λ t. before ++ t) (sym (ap joined (take_more xs i d h) ∙ p))
 
-  joined_more : (i : ℕ) (d : X) → i < length xs → joined_first (i + 1) ≡ (joined_first i ++ cond (ltb 0 i) separator []) ++ f (get_or xs i d)
-  joined_more i d h =
-      ap (joined_by separator) (map_more f xs i d h)
-      ∙ joined_push separator (map f (take i xs)) (f (get_or xs i d))
-      ∙ ap (λ n. (joined_first i ++ cond (ltb 0 n) separator []) ++ f (get_or xs i d)) (length-map (take i xs) f ∙ length-take-le i xs (omega arith))
+    pub joined_more : 0 < i → mid ≡ old ++ separator → new ≡ before ++ joined (take (i + 1) xs)
+    joined_more k m =
+        let p = push_more (take i xs) (get_or xs i d) (omega (arith, length-take-le i xs (omega arith))) in
+        n
+        ∙ ap (λ t. t ++ f (get_or xs i d)) (m ∙ ap (λ t. t ++ separator) e ∙ append_assoc before (joined (take i xs)) separator)
+        ∙ append_assoc before (joined (take i xs) ++ separator) (f (get_or xs i d))
+        ∙ ap (λ t. before ++ t) (sym (ap joined (take_more xs i d h) ∙ p))
 
-  -- one turn: a separator if need be, then the part
-  pub joined_step : (i : ℕ) (d : X) (before old mid new : List ℕ) → i < length xs → old ≡ before ++ joined_first i → mid ≡ old ++ cond (ltb 0 i) separator [] → new ≡ mid ++ f (get_or xs i d) → new ≡ before ++ joined_first (i + 1)
-  joined_step i d before old mid new h e m n =
-      n
-      ∙ ap (λ t. t ++ f (get_or xs i d)) (m ∙ ap (λ t. t ++ cond (ltb 0 i) separator []) e)
-      ∙ ap (λ t. t ++ f (get_or xs i d)) (append_assoc before (joined_first i) (cond (ltb 0 i) separator []))
-      ∙ append_assoc before (joined_first i ++ cond (ltb 0 i) separator []) (f (get_or xs i d))
-      ∙ ap (λ t. before ++ t) (sym (joined_more i d h))
-
-  pub joined_all : (i : ℕ) (before new : List ℕ) → length xs ≤ i → new ≡ before ++ joined_first i → new ≡ before ++ joined_by separator (map f xs)
-  joined_all i before new h e = e ∙ ap (λ ys. before ++ joined_by separator (map f ys)) (take_all i xs h)
+pub length_row : (k n : ℕ) → length (row k n) ≡ k
+length_row k n = length-map-range_with_len _ 0 k
 
 encode_digit : (b : Bool) → encode (digit b) ≡ digit b ∷ []
 unfolding encode

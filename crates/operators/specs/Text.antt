@@ -1,7 +1,7 @@
 -- The line of a code, as bytes.
-use Rattle.std.specs.Prelude.{◌≡◌, ℕ, ◌-◌, ◌/◌, ◌%◌, ◌^◌, Bool, true, false, cond, List, [], ◌∷◌, ◌++◌, map, Ok, Err, codes, decimal, Result, nat_eq, slice_index_or}
+use Rattle.std.specs.Prelude.{◌≡◌, ℕ, ◌-◌, ◌/◌, ◌%◌, ◌^◌, Bool, true, false, cond, List, [], ◌++◌, map, Ok, Err, codes, decimal, Result, nat_eq, slice_index_or}
 use Rattle.std.proofs.Math.Utf8.{encode}
-use Rattle.std.specs.List.{range_with_len}
+use Rattle.std.specs.List.{range_with_len, join_by}
 use Rattle.gates.specs.declared.kinds.Slot.{Slot}
 use Rattle.gates.specs.declared.kinds.Slot.TheVariants.{Operand, Output}
 use Rattle.gates.specs.declared.kinds.SlotLiteral.{SlotLiteral}
@@ -20,20 +20,13 @@ slot_name names Output = 120
 abbrev pub literal_text : List ℕ → SlotLiteral → List ℕ
 literal_text names l = cond l.negated (codes "-") [] ++ encode (slot_name names l.slot)
 
--- texts one after another, each but the first behind a separator
-abbrev pub behind : List ℕ → List (List ℕ) → List ℕ
-behind separator [] = []
-behind separator (t ∷ ts) = (separator ++ t) ++ behind separator ts
-
-abbrev pub joined_by : List ℕ → List (List ℕ) → List ℕ
-joined_by separator [] = []
-joined_by separator (t ∷ ts) = t ++ behind separator ts
-
+-- the literals of a pattern, a blank between two
 abbrev pub pattern_text : List ℕ → List SlotLiteral → List ℕ
-pattern_text names p = joined_by (codes " ") (map (literal_text names) p)
+pattern_text names p = join_by (literal_text names) (codes " ") p
 
+-- the patterns of a code, a bar between two
 abbrev pub patterns_text : List ℕ → List (List SlotLiteral) → List ℕ
-patterns_text names ps = joined_by (codes " | ") (map (pattern_text names) ps)
+patterns_text names ps = join_by (pattern_text names) (codes " | ") ps
 
 -- the operand values of a row: the digits of its number in base 2, the first operand the highest
 abbrev pub row : ℕ → ℕ → List Bool

@@ -8,7 +8,7 @@ use std::io;
 
 fn print_kind<G: GateKind>(rt: &HostRuntime, title: &str, names: &[char]) -> io::Result<()> {
     println!(rt; "{title}")?;
-    for code in 0..G::code_count() {
+    for code in 0..G::CODES {
         let line = text::line::<G>(rt.alloc(), names, code)?;
         println!(rt; "{line}")?;
     }

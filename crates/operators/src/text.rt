@@ -1,7 +1,9 @@
 // The line of a code: the code, its operand count, its truth values and its patterns.
-ghost use Rattle.std.specs.Prelude.{◌≡◌, ◌<◌, ◌≤◌, [], length, take, IfOk, if◌then◌else◌, string_bytes, slice_index_or};
+ghost use Rattle.std.specs.Prelude.{◌≡◌, ◌<◌, ◌≤◌, [], length, IfOk, string_bytes, slice_index_or};
+ghost use Rattle.clauses.specs.Few.{items_of};
 ghost use Rattle.operators.specs.Text.{Appends, slot_name, literal_text, pattern_text, patterns_text, row, digit, truth_text, line_text};
 
+use clauses::few::Few;
 use gates::{GateKind, Slot, SlotLiteral};
 use std::alloc::{AllocError, Global};
 
@@ -10,25 +12,18 @@ fn slot_name(names: &[char], slot: Slot) -> char
     ensures { result ≡ slot_name names.now slot }
 {
     match slot {
-        Slot::Operand(i) => match names.get(i as usize) {
-            Some(name) => *name,
-            None => '?',
-        },
+        Slot::Operand(i) => names.get(usize::from(i)).copied().unwrap_or('?'),
         Slot::Output => 'x',
     }
 }
 
-// A part of the text that is not always there.
-fn shown_if(shown: bool, part: &str) -> &str
-    ensures { result.now ≡ (if shown then part.now else []) }
-{
-    if shown { part } else { "" }
-}
-
+// A name, behind a sign if the literal is negated.
 fn put_literal(text: &mut String, names: &[char], literal: SlotLiteral) -> Result<(), AllocError>
     ensures { Appends result (string_bytes text.old) (string_bytes text.new) (literal_text names.now literal) }
 {
-    text.push_str(shown_if(literal.negated, "-"))?;
+    if literal.negated {
+        text.push('-')?;
+    }
     text.push(slot_name(names, literal.slot))
 }
 
@@ -44,7 +39,9 @@ fn put_pattern<G: GateKind>(
     ensures { Appends result (string_bytes text.old) (string_bytes text.new) (pattern_text names.now (slice_index_or (G.GateKind.kind.patterns code) index [])) }
 {
     for place in 0..G::pattern_size(code, index) {
-        text.push_str(shown_if(place > 0, " "))?;
+        if place > 0 {
+            text.push(' ')?;
+        }
         put_literal(text, names, G::pattern_literal(code, index, place))?;
     }
     Ok(())
@@ -56,20 +53,22 @@ fn put_patterns<G: GateKind>(text: &mut String, names: &[char], code: u8) -> Res
     ensures { Appends result (string_bytes text.old) (string_bytes text.new) (patterns_text names.now (G.GateKind.kind.patterns code)) }
 {
     for index in 0..G::pattern_count(code) {
-        text.push_str(shown_if(index > 0, " | "))?;
+        if index > 0 {
+            text.push_str(" | ")?;
+        }
         put_pattern::<G>(text, names, code, index)?;
     }
     Ok(())
 }
 
 // The operand values of a row: the digits of its number in base 2, the first operand the highest.
-fn row_of(count: u8, number: u16) -> [bool; 8]
+fn row_of(count: u8, number: u16) -> Few<bool, 8>
     requires { count ≤ 8 }
-    ensures { take count result ≡ row count number }
+    ensures { items_of result ≡ row count number }
 {
-    let mut values = [false; 8];
-    for j in 0..count as usize {
-        values[j] = (number >> (count as usize - 1 - j)) % 2 == 1;
+    let mut values = Few::new();
+    for place in 0..count {
+        values.push((number >> (count - 1 - place)) % 2 == 1);
     }
     values
 }
@@ -87,8 +86,8 @@ fn put_truth<G: GateKind>(text: &mut String, code: u8) -> Result<(), AllocError>
 {
     let count = G::operand_count(code);
     for number in 0..1u16 << count {
-        let values = row_of(count, number);
-        text.push(digit(G::value(code, &values[0..count as usize])))?;
+        let value = G::value(code, row_of(count, number).as_slice());
+        text.push(digit(value))?;
     }
     Ok(())
 }

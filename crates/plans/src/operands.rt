@@ -43,7 +43,7 @@ pub fn node_record<G: GateKind>(
 ) -> Result<NodeRecord, Refusal>
     ensures { node_in result ≡ node_answer G.GateKind.kind signals code operands.now }
 {
-    if code >= G::code_count() as u32 {
+    if code >= G::CODES as u32 {
         return Err(Refusal::Operator);
     }
     let code = code as u8;
@@ -53,6 +53,8 @@ pub fn node_record<G: GateKind>(
     if !are_signals(signals, operands) {
         return Err(Refusal::NoSignal);
     }
-    let kept = narrowed(signals, operands);
-    Ok(NodeRecord::new(code, kept.as_slice()))
+    Ok(NodeRecord {
+        code,
+        operands: narrowed(signals, operands),
+    })
 }

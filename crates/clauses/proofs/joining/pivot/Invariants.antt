@@ -1,9 +1,9 @@
-use Rattle.std.proofs.Common.{◌≡◌, ◌+◌, ◌-◌, ◌++◌, length, drop}
+use Rattle.std.proofs.Common.{◌≡◌, ◌+◌, ◌++◌, length}
 use Rattle.clauses.specs.Joining.{clashes, listed}
 use Rattle.clauses.proofs.joining.pivot.Given as goal
 
-abbrev pub invariant-loop-i : goal.invariant-loop-i
-invariant-loop-i l = listed l.found ++ clashes (drop l.i l.left) (drop l.j l.right) ≡ clashes l.left l.right
+abbrev pub invariant-loop-l : goal.invariant-loop-l
+invariant-loop-l l = listed l.found ++ clashes l.lefts l.rights ≡ clashes l.left l.right
 
-abbrev pub decreases-loop-i : goal.decreases-loop-i
-decreases-loop-i l = (length l.left - l.i) + (length l.right - l.j)
+abbrev pub decreases-loop-l : goal.decreases-loop-l
+decreases-loop-l l = length l.lefts + length l.rights

@@ -1,6 +1,7 @@
-use Rattle.std.proofs.Common.{◌≡◌, map, length, take}
+use Rattle.std.proofs.Common.{◌≡◌, map, take}
+use Rattle.clauses.specs.Few.{items_of}
 use Rattle.gates.specs.Nodes.{value_at}
 use Rattle.gates.proofs.nodes.operand_row.Given as goal
 
-abbrev pub invariant-loop-j : goal.invariant-loop-j
-invariant-loop-j l = (length l.row ≡ 8) × (take l.j l.row ≡ map (value_at l.values) (take l.j l.node.operands))
+abbrev pub invariant-loop-signal : goal.invariant-loop-signal
+invariant-loop-signal l = items_of l.row ≡ map (value_at l.values) (take l.signal-index l.signal-items)

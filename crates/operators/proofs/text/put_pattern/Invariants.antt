@@ -1,9 +1,7 @@
-use Rattle.std.proofs.Common.{◌≡◌, [], ◌++◌, get_or, string_bytes, codes}
-use Rattle.operators.specs.Text.{literal_text}
-use Rattle.operators.proofs.Appending.{joined_first}
+use Rattle.std.proofs.Common.{◌≡◌, [], ◌++◌, get_or, take, string_bytes}
+use Rattle.operators.specs.Text.{pattern_text}
 use Rattle.operators.proofs.text.put_pattern.Given as goal
 
 abbrev pub invariant-loop-place : goal.invariant-loop-place
 invariant-loop-place g l =
-    let pattern = get_or (g.G.GateKind.kind.patterns l.code) l.index [] in
-    string_bytes l.text ≡ string_bytes l.initial.text ++ joined_first (literal_text l.names) (codes " ") pattern l.place
+    string_bytes l.text ≡ string_bytes l.initial.text ++ pattern_text l.names (take l.place (get_or (g.G.GateKind.kind.patterns l.code) l.index []))
