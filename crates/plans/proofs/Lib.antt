@@ -6,4 +6,3 @@ pub mod GateCases
 pub mod PlanPut
 pub mod Putting
 pub mod Room
-pub mod SameReasons

@@ -13,9 +13,10 @@ use gates::{GateKind, NodeRecord, fill_clause};
 
 // What gets clauses one after another.
 pub trait ClauseSink {
-    // What there must be room for, and what a clause makes of the sink.
+    // The sink has room for a clause.
     ghost can_put: { Self → List ℕ → Type 0 };
 
+    // What a clause makes of the sink.
     ghost put_gives: { Self → List ℕ → Self → Type 0 };
 
     fn put(&mut self, clause: &[u32])
