@@ -1,6 +1,5 @@
 // Lines of a plan that is not complete.
 ghost use Rattle.std.specs.Prelude.{◌≡◌};
-ghost use Rattle.plans.specs.PlanStates.{plan_of};
 ghost use Rattle.texts.specs.LineStates.{formed};
 ghost use Rattle.judge.specs.Judging.{plan_lined, formula_line};
 ghost use Rattle.judge.specs.Results.{becomes, Keeps};
@@ -16,8 +15,8 @@ use verdicts::Verdict;
 
 // Only a two-input plan takes a formula.
 fn formula_line<G: GateKind>(plan: &mut Plan<G>, kind: PlanKind, text: &[u8]) -> Result<(), Refusal>
-    ensures becomes { becomes result (plan_of plan.new) ≡ formula_line G.GateKind.kind kind (plan_of plan.old) text.now }
-    ensures keeps { Keeps result (plan_of plan.old) (plan_of plan.new) }
+    ensures becomes { becomes result plan.new ≡ formula_line G.GateKind.kind kind plan.old text.now }
+    ensures keeps { Keeps result plan.old plan.new }
 {
     match kind {
         PlanKind::TwoInput => formula_of::<G>(plan, text),
@@ -31,7 +30,7 @@ fn plan_line<G: GateKind>(
     kind: PlanKind,
     line: Result<Line, Refusal>,
 ) -> Result<(), Refusal>
-    ensures { becomes result (plan_of plan.new) ≡ plan_lined G.GateKind.kind kind (plan_of plan.old) (formed line.entry) }
+    ensures { becomes result plan.new ≡ plan_lined G.GateKind.kind kind plan.old (formed line.entry) }
 {
     match line? {
         Line::Gate(code, operands) => plan.gate(code, operands.as_slice()).map(|_| ()),
@@ -47,7 +46,7 @@ pub fn plan_lines<G: GateKind>(
     kind: PlanKind,
     lines: &mut NumberedLines,
 ) -> Result<(), Verdict>
-    ensures { Grows G.GateKind.kind kind result (plan_of plan.old) (plan_of plan.new) lines.old lines.new }
+    ensures { Grows G.GateKind.kind kind result plan.old plan.new lines.old lines.new }
 {
     while !plan.is_complete() {
         let Some(line) = lines.take() else {

@@ -26,9 +26,8 @@ fn show_digits<G: GateKind, B: ClauseBook>(
     ensures answer { result ≡ answer G.GateKind.kind (state_of B.ClauseBook.meaning docket.old) (Show (packed_digits (state_of B.ClauseBook.meaning docket.old).plan.switches digits.now)) }
     ensures after { state_of B.ClauseBook.meaning docket.new ≡ granted result (changed G.GateKind.kind (state_of B.ClauseBook.meaning docket.old) (Show (packed_digits (state_of B.ClauseBook.meaning docket.old).plan.switches digits.now))) (state_of B.ClauseBook.meaning docket.old) }
 {
-    let mut setting = [0; 32];
-    let count = pack(docket.plan().switches(), digits, &mut setting);
-    docket.show(&setting[0..count])
+    let setting = pack(docket.plan().switches(), digits);
+    docket.show(setting.as_slice())
 }
 
 // Makes the call of a line, if it has the form of one.
@@ -51,7 +50,7 @@ fn step_line<G: GateKind, B: ClauseBook>(
     }
 }
 
-// Follows the lines that are left, up to the first refused one.
+// Follows the lines that are left, up to the first refused one. (A refused line is a verdict and no error, so there is no `?`.)
 pub fn step_lines<G: GateKind, B: ClauseBook>(
     docket: &mut Docket<G, B>,
     lines: &mut NumberedLines,
