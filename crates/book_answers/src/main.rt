@@ -4,26 +4,40 @@
 mod steps;
 
 use anyhow::anyhow;
-use books::{ChainedBook, PackedBook};
+use books::{ChainedBook, NewBook, PackedBook};
+use clauses::Refusal;
+use std::alloc::Global;
 use steps::transcript;
 
 // The largest book, small ones, one without cells, one without numbers, and one of neither.
 const SIZES: [(u32, u32); 6] = [(2048, 6144), (9, 80), (3, 7), (4, 0), (0, 9), (0, 0)];
 
+// What a new book of these sizes answers to the steps.
+fn answers<B: NewBook + Drop>(heap: Global, numbers: u32, cells: u32) -> Result<String, Refusal> {
+    let book = B::new(heap, numbers, cells)?;
+    Ok(transcript(heap, book)?)
+}
+
+// Whether a book of these sizes is made, or why not.
+fn making<B: NewBook + Drop>(heap: Global, numbers: u32, cells: u32) -> &'static str {
+    match B::new(heap, numbers, cells) {
+        Ok(_) => "made",
+        Err(refusal) => refusal.words(),
+    }
+}
+
 fn run(rt: &HostRuntime) -> anyhow::Result<()> {
     let heap = rt.alloc();
     for (numbers, cells) in SIZES {
-        let Ok(packed) = PackedBook::new(heap, numbers, cells) else {
+        let Ok(first) = answers::<PackedBook>(heap, numbers, cells) else {
             return Err(anyhow!("no packed book"));
         };
-        let Ok(chained) = ChainedBook::new(heap, numbers, cells) else {
+        let Ok(second) = answers::<ChainedBook>(heap, numbers, cells) else {
             return Err(anyhow!("no chained book"));
         };
-        let first = transcript(heap, packed)?;
-        let second = transcript(heap, chained)?;
         println!(rt; "a book of {numbers} numbers and {cells} cells")?;
         print!(rt; "{first}")?;
-        if first.as_str() == second.as_str() {
+        if first == second {
             println!(rt; "both books answer the same")?;
         } else {
             print!(rt; "the chained book answers otherwise:\n{second}")?;
@@ -35,14 +49,8 @@ fn run(rt: &HostRuntime) -> anyhow::Result<()> {
 // Sizes past the limits: each book says why there is none.
 fn refused(rt: &HostRuntime) -> anyhow::Result<()> {
     for (numbers, cells) in [(2049, 6144), (2048, 6145), (4294967295, 0)] {
-        let packed = match PackedBook::new(rt.alloc(), numbers, cells) {
-            Ok(_) => "made",
-            Err(refusal) => refusal.words(),
-        };
-        let chained = match ChainedBook::new(rt.alloc(), numbers, cells) {
-            Ok(_) => "made",
-            Err(refusal) => refusal.words(),
-        };
+        let packed = making::<PackedBook>(rt.alloc(), numbers, cells);
+        let chained = making::<ChainedBook>(rt.alloc(), numbers, cells);
         println!(rt; "a book of {numbers} numbers and {cells} cells: {packed}, {chained}")?;
     }
     Ok(())

@@ -4,10 +4,13 @@
 mod transcript;
 
 use anyhow::anyhow;
-use books::{ChainedBook, PackedBook};
+use books::clause_book::{MAX_CELLS, MAX_NUMBERS};
+use books::{ChainedBook, NewBook, PackedBook};
+use clauses::Refusal;
 use gates::{GateKind, TwoInput, Wide};
 use plans::Plan;
 use referee::Call;
+use std::alloc::Global;
 use transcript::transcript;
 
 // Switch 1 is the heater, switch 2 says that the cooler valve is shut: if the heater is on, the valve is shut; and the heater is on.
@@ -75,6 +78,19 @@ fn planned<G: GateKind>(
     Ok(plan)
 }
 
+// What a docket on a new book at its largest answers.
+fn answers<G: GateKind, B: NewBook + Drop>(
+    heap: Global,
+    plan: &Plan<G>,
+    calls: &[Call],
+) -> Result<String, Refusal> {
+    let book = B::new(heap, MAX_NUMBERS, MAX_CELLS)?;
+    match transcript(heap, plan, book, calls) {
+        Ok((text, _)) => Ok(text),
+        Err((refusal, _)) => Err(refusal),
+    }
+}
+
 // The same calls on both books; what the packed book's docket answered is printed.
 fn follow<G: GateKind>(
     rt: &HostRuntime,
@@ -82,21 +98,14 @@ fn follow<G: GateKind>(
     plan: &Plan<G>,
     calls: &[Call],
 ) -> anyhow::Result<()> {
-    let heap = rt.alloc();
-    let Ok(packed) = PackedBook::new(heap, 2048, 6144) else {
-        return Err(anyhow!("no packed book"));
-    };
-    let Ok(chained) = ChainedBook::new(heap, 2048, 6144) else {
-        return Err(anyhow!("no chained book"));
-    };
-    let Ok((first, _)) = transcript(heap, plan, packed, calls) else {
+    let Ok(first) = answers::<G, PackedBook>(rt.alloc(), plan, calls) else {
         return Err(anyhow!("no docket on the packed book"));
     };
-    let Ok((second, _)) = transcript(heap, plan, chained, calls) else {
+    let Ok(second) = answers::<G, ChainedBook>(rt.alloc(), plan, calls) else {
         return Err(anyhow!("no docket on the chained book"));
     };
     print!(rt; "{name}\n{first}")?;
-    if first.as_str() == second.as_str() {
+    if first == second {
         println!(rt; "both books answer the same")?;
     } else {
         print!(rt; "the chained book answers otherwise:\n{second}")?;
@@ -104,27 +113,23 @@ fn follow<G: GateKind>(
     Ok(())
 }
 
-fn run(rt: &HostRuntime) -> anyhow::Result<()> {
-    let warm = planned::<TwoInput>(rt, &WARM, 4)?;
-    follow(rt, "warm oil, two-input", &warm, &SHOWN)?;
-    let warm_wide = planned::<Wide>(rt, &WARM_WIDE, 5)?;
-    follow(rt, "warm oil, wide", &warm_wide, &SHOWN)?;
-    let refuted = planned::<TwoInput>(rt, &OPEN_VALVE, 6)?;
+fn main(rt: HostRuntime) -> anyhow::Result<()> {
+    let warm = planned::<TwoInput>(&rt, &WARM, 4)?;
+    follow(&rt, "warm oil, two-input", &warm, &SHOWN)?;
+    let warm_wide = planned::<Wide>(&rt, &WARM_WIDE, 5)?;
+    follow(&rt, "warm oil, wide", &warm_wide, &SHOWN)?;
+    let refuted = planned::<TwoInput>(&rt, &OPEN_VALVE, 6)?;
     follow(
-        rt,
+        &rt,
         "warm oil with the valve open, two-input",
         &refuted,
         &REFUTED,
     )?;
-    let refuted_wide = planned::<Wide>(rt, &OPEN_VALVE_WIDE, 6)?;
+    let refuted_wide = planned::<Wide>(&rt, &OPEN_VALVE_WIDE, 6)?;
     follow(
-        rt,
+        &rt,
         "warm oil with the valve open, wide",
         &refuted_wide,
         &REFUTED_WIDE,
     )
-}
-
-fn main(rt: HostRuntime) -> anyhow::Result<()> {
-    run(&rt)
 }

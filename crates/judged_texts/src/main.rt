@@ -47,19 +47,15 @@ fn show_long(rt: &HostRuntime, texts: &[(&str, &[Part])]) -> anyhow::Result<()> 
     Ok(())
 }
 
-fn run(rt: &HostRuntime) -> anyhow::Result<()> {
-    show_all(rt, line_forms::texts())?;
-    show_all(rt, line_places::texts())?;
-    show_all(rt, plan_texts::texts())?;
-    show_all(rt, formula_texts::texts())?;
-    show_all(rt, steps::texts())?;
-    show_all(rt, verdict_texts::texts())?;
-    show_long(rt, long_texts::texts())?;
-    show_long(rt, nested_formulas::texts())?;
-    show_long(rt, full_books::texts())?;
-    show_long(rt, long_clauses::texts())
-}
-
 fn main(rt: HostRuntime) -> anyhow::Result<()> {
-    run(&rt)
+    show_all(&rt, &line_forms::TEXTS)?;
+    show_all(&rt, &line_places::TEXTS)?;
+    show_all(&rt, &plan_texts::TEXTS)?;
+    show_all(&rt, &formula_texts::TEXTS)?;
+    show_all(&rt, &steps::TEXTS)?;
+    show_all(&rt, &verdict_texts::TEXTS)?;
+    show_long(&rt, &long_texts::TEXTS)?;
+    show_long(&rt, &nested_formulas::TEXTS)?;
+    show_long(&rt, &full_books::TEXTS)?;
+    show_long(&rt, &long_clauses::TEXTS)
 }
