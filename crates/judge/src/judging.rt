@@ -31,7 +31,7 @@ fn turned_down<B: ClauseBook>(
     }
 }
 
-// Opens a docket on a complete plan, and follows the lines that are left.
+// Opens a docket on a complete plan, and follows the lines that are left. (Heap, book and lines are no struct: the docket takes the book and gives it back.)
 fn open_lines<G: GateKind, B: ClauseBook>(
     heap: Global,
     plan: &Plan<G>,
@@ -59,6 +59,7 @@ fn begin_lines<G: GateKind, B: ClauseBook>(
 ) -> Result<(Verdict, B), (Refusal, B)>
     ensures { VerdictIs B.ClauseBook.meaning book (begin_lines G.GateKind.kind kind switches (B.ClauseBook.meaning book) lines.old.number (left lines.old)) result }
 {
+    // The refusal goes out with the book, so there is no `?`.
     let mut plan = match Plan::<G>::begin(heap, switches) {
         Ok(plan) => plan,
         Err(refusal) => return turned_down(lines, refusal, book),
@@ -105,7 +106,7 @@ pub fn verdict<B: ClauseBook>(
     all_lines(heap, book, &mut lines)
 }
 
-// Writes the verdict line to the front of a buffer, answers its length, and gives the book back.
+// Writes the verdict line to the front of a buffer, since it takes no memory; answers its length, and gives the book back.
 pub fn judge<B: ClauseBook>(
     heap: Global,
     text: &[u8],

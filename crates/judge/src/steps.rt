@@ -50,7 +50,7 @@ fn step_line<G: GateKind, B: ClauseBook>(
     }
 }
 
-// Follows the lines that are left, up to the first refused one.
+// Follows the lines that are left, up to the first refused one. (A refused line is a verdict and no error, so there is no `?`.)
 pub fn step_lines<G: GateKind, B: ClauseBook>(
     docket: &mut Docket<G, B>,
     lines: &mut NumberedLines,
