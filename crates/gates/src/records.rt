@@ -18,9 +18,7 @@ impl NodeRecord {
         ensures { node_of result ≡ record { code = code; operands = operands.now } }
     {
         let mut kept = Few::new();
-        for operand in operands {
-            kept.push(*operand);
-        }
+        kept.extend_from_slice(operands);
         NodeRecord {
             code,
             operands: kept,

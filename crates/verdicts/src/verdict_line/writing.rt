@@ -9,16 +9,6 @@ use clauses::buffers::copy_at;
 use clauses::few::Few;
 use model::Standing;
 
-// Adds a text to the line.
-fn put_text(text: &[u8], line: &mut Few<u8, 32>)
-    requires { length (items_of line.old) + length text.now ≤ 32 }
-    ensures { items_of line.new ≡ items_of line.old ++ text.now }
-{
-    for byte in text {
-        line.push(*byte);
-    }
-}
-
 // Adds the decimal digits of `number` to the line, the last one after the others.
 #[tactic(auto, using(crate::proofs::LineParts::length_step))]
 fn put_digits(number: u16, line: &mut Few<u8, 32>)
@@ -50,13 +40,13 @@ impl Verdict {
         let mut line = Few::new();
         match self {
             Verdict::Stands(standing) => {
-                put_text(standing.words().as_bytes(), &mut line);
+                line.extend_from_slice(standing.words().as_bytes());
                 if let Standing::Runs(count) = standing {
                     put_spaced(count, &mut line);
                 }
             }
             Verdict::Refused(place, refusal) => {
-                put_text(b"refused", &mut line);
+                line.extend_from_slice(b"refused");
                 put_spaced(place, &mut line);
                 put_spaced(u16::from(refusal.number().unwrap_or(0)), &mut line);
             }
