@@ -1,7 +1,8 @@
 // Writes, questions and strikes on a book, and what it answered.
 use books::ClauseBook;
-use clauses::Refusal;
+use clauses::{Answer, Refusal};
 use std::alloc::{AllocError, Global};
+use std::fmt::Write;
 
 #[derive(Clone, Copy)]
 enum Step {
@@ -64,25 +65,10 @@ const STEPS: [Step; 42] = [
 // The literals first, first + 1, .., so many as a buffer takes.
 fn literals(count: usize, first: u32) -> [u32; 65] {
     let mut clause = [0; 65];
-    for place in 0..count.min(65) {
-        clause[place] = first.wrapping_add(place as u32);
+    for (place, literal) in clause[..count.min(65)].iter_mut().enumerate() {
+        *literal = first.wrapping_add(place as u32);
     }
     clause
-}
-
-fn put_answer(
-    text: &mut String,
-    heap: Global,
-    answer: Result<u32, Refusal>,
-) -> Result<(), AllocError> {
-    let shown = match answer {
-        Ok(number) => format!(in heap; "{number}\n")?,
-        Err(refusal) => {
-            let words = refusal.words();
-            format!(in heap; "refused, {words}\n")?
-        }
-    };
-    text.push_str(shown.as_str())
 }
 
 // Writes clauses until one is refused: says how many were granted, and why the last was not.
@@ -97,78 +83,76 @@ fn fill<B: ClauseBook>(book: &mut B, count: usize) -> (u32, Option<Refusal>) {
     (2049, None)
 }
 
-fn put_step<B: ClauseBook>(
-    text: &mut String,
-    heap: Global,
-    book: &mut B,
-    step: Step,
-) -> Result<(), AllocError> {
+fn put_answer(text: &mut String, answer: Result<u32, Refusal>) -> Result<(), AllocError> {
+    let shown = Answer(answer);
+    writeln!(text, "{shown}")
+}
+
+fn put_step<B: ClauseBook>(text: &mut String, book: &mut B, step: Step) -> Result<(), AllocError> {
     match step {
         Step::Write(count, first) => {
             let clause = literals(count, first);
-            let name = format!(in heap; "write {count} literals: ")?;
-            text.push_str(name.as_str())?;
             let length = count.min(65);
-            put_answer(text, heap, book.write(&clause[0..length]))
+            write!(text, "write {count} literals: ")?;
+            put_answer(text, book.write(&clause[0..length]))
         }
-        Step::Fill(count) => put_fill(text, heap, book, count),
+        Step::Fill(count) => put_fill(text, book, count),
         Step::Length(number) => {
-            let name = format!(in heap; "length of {number}: ")?;
-            text.push_str(name.as_str())?;
-            put_answer(text, heap, book.length(number))
+            write!(text, "length of {number}: ")?;
+            put_answer(text, book.length(number))
         }
         Step::Literal(number, place) => {
-            let name = format!(in heap; "literal {place} of {number}: ")?;
-            text.push_str(name.as_str())?;
-            put_answer(text, heap, book.literal(number, place))
+            write!(text, "literal {place} of {number}: ")?;
+            put_answer(text, book.literal(number, place))
         }
-        Step::Strike(number) => put_strike(text, heap, book, number),
-        Step::Sizes => put_sizes(text, heap, book),
+        Step::Strike(number) => put_strike(text, book, number),
+        Step::Sizes => put_sizes(text, book),
     }
 }
 
 fn put_fill<B: ClauseBook>(
     text: &mut String,
-    heap: Global,
     book: &mut B,
     count: usize,
 ) -> Result<(), AllocError> {
     let (granted, refusal) = fill(book, count);
-    let name = format!(in heap; "fill with clauses of {count} literals: {granted} granted, then ")?;
-    text.push_str(name.as_str())?;
+    write!(
+        text,
+        "fill with clauses of {count} literals: {granted} granted, then "
+    )?;
     match refusal {
-        Some(reason) => put_answer(text, heap, Err(reason)),
+        Some(reason) => put_answer(text, Err(reason)),
         None => text.push_str("no end\n"),
     }
 }
 
 fn put_strike<B: ClauseBook>(
     text: &mut String,
-    heap: Global,
     book: &mut B,
     number: u32,
 ) -> Result<(), AllocError> {
-    let name = format!(in heap; "strike {number}: ")?;
-    text.push_str(name.as_str())?;
+    write!(text, "strike {number}: ")?;
     match book.strike(number) {
         Ok(()) => text.push_str("struck\n"),
-        Err(reason) => put_answer(text, heap, Err(reason)),
+        Err(reason) => put_answer(text, Err(reason)),
     }
 }
 
-fn put_sizes<B: ClauseBook>(text: &mut String, heap: Global, book: &B) -> Result<(), AllocError> {
+fn put_sizes<B: ClauseBook>(text: &mut String, book: &B) -> Result<(), AllocError> {
     let given = book.given();
     let numbers = book.free_numbers();
     let cells = book.free_cells();
-    let shown = format!(in heap; "given {given}, free numbers {numbers}, free cells {cells}\n")?;
-    text.push_str(shown.as_str())
+    writeln!(
+        text,
+        "given {given}, free numbers {numbers}, free cells {cells}"
+    )
 }
 
 // A line for each step.
 pub fn transcript<B: ClauseBook + Drop>(heap: Global, mut book: B) -> Result<String, AllocError> {
     let mut text = String::new(heap);
     for step in STEPS {
-        put_step(&mut text, heap, &mut book, step)?;
+        put_step(&mut text, &mut book, step)?;
     }
     Ok(text)
 }

@@ -1,45 +1,22 @@
 -- The chains of a book's heads and of its free cells: what writing and striking leave of them.
 use Rattle.std.proofs.Common.{◌≡◌, ℕ, zero, suc, ◌+◌, ◌-◌, ◌<◌, ◌≤◌, true, ◌≢◌, List, [], ◌∷◌, ◌++◌, map, length, get_or, set, Some, None, sum_by, Option, sym, refl, ap, ◌∙◌, ap₂, inl, inr, arith}
 use Rattle.std.specs.Option.{option_map}
+use Rattle.std.proofs.Math.ListN.{get_or-map}
 use Rattle.std.proofs.lemmas.List.FromFn.{length-map-range_with_len, get_or-map-range_with_len}
-use Rattle.std.proofs.lemmas.List.{length-append, length-map, get_or_past, map_push, map-set}
+use Rattle.std.proofs.lemmas.List.{length-append, length-map, map_push, map-set}
 use Rattle.std.proofs.lemmas.List.Sums.{sum_by-cons, sum_by_push, sum_by-set}
-use Rattle.std.proofs.lemmas.Bool.{ne_eqb, cases_eq, cases_lt}
+use Rattle.std.proofs.lemmas.Bool.{ne_eqb, cases_eq}
 use Rattle.clauses.specs.Limits.{max_literals}
 use Rattle.books.specs.declared.cells.Cell.{Cell}
 use Rattle.books.specs.Book.{slot_size, total_size}
 use Rattle.books.specs.Chained.{unused_cell, unused, cell_at, chain, ends, times, row, row_ends, Sound, Short, literals_in, Parted}
+use Rattle.books.proofs.BookEntries.{each_push, each_set, slot_within}
 use Rattle.books.proofs.ChainedLinks.{times_cons, times_here, times-append, chain_none, chain_cons, chain_kept}
 
--- a list mapped, read at any place
-pub get_or_map_any : {X Y : Type 0} (f : X → Y) (xs : List X) (i : ℕ) (d : X) → get_or (map f xs) i (f d) ≡ f (get_or xs i d)
-get_or_map_any f [] i d = refl
-get_or_map_any f (x ∷ xs) zero d = refl
-get_or_map_any f (x ∷ xs) (suc i) d = get_or_map_any f xs i d
-
--- what holds of each front, when one more comes or one is changed
+-- what holds of each front, when one more comes first
 each_cons : (P : Option ℕ → Type 0) (o : Option ℕ) (hs : List (Option ℕ)) → P o → ((k : ℕ) → P (get_or hs k None)) → (k : ℕ) → P (get_or (o ∷ hs) k None)
 each_cons P o hs p ps zero = p
 each_cons P o hs p ps (suc k) = ps k
-
-each_push : (P : Option ℕ → Type 0) (hs : List (Option ℕ)) (o : Option ℕ) → P None → ((k : ℕ) → P (get_or hs k None)) → P o → (k : ℕ) → P (get_or (hs ++ (o ∷ [])) k None)
-each_push P [] o n ps p zero = p
-each_push P [] o n ps p (suc k) = n
-each_push P (h ∷ hs) o n ps p zero = ps 0
-each_push P (h ∷ hs) o n ps p (suc k) = each_push P hs o n (λ j. ps (suc j)) p k
-
-each_set : (P : Option ℕ → Type 0) (hs : List (Option ℕ)) (i : ℕ) (o : Option ℕ) → P o → ((k : ℕ) → P (get_or hs k None)) → (k : ℕ) → P (get_or (set hs i o) k None)
-each_set P [] i o p ps k = ps k
-each_set P (h ∷ hs) zero o p ps zero = p
-each_set P (h ∷ hs) zero o p ps (suc k) = ps (suc k)
-each_set P (h ∷ hs) (suc i) o p ps zero = ps 0
-each_set P (h ∷ hs) (suc i) o p ps (suc k) = each_set P hs i o p (λ j. ps (suc j)) k
-
-pub front_within : (hs : List (Option ℕ)) (k h : ℕ) → get_or hs k None ≡ Some h → k < length hs
-front_within hs k h e = elim (cases_lt k (length hs)) [
-  | inl lt ↦ lt
-  | inr le ↦ let n = get_or_past hs k None le in let z : ◌≡◌ {A = ℕ} 0 1 = cc in absurd (omega arith)
-]
 
 -- a sum over the chains, when one more comes first or last, or one is taken out
 module _ (f : List ℕ → ℕ) (cs : List Cell) (hs : List (Option ℕ)) where
@@ -51,9 +28,9 @@ module _ (f : List ℕ → ℕ) (cs : List Cell) (hs : List (Option ℕ)) where
 
   sum_without : (k h : ℕ) → f [] ≡ 0 → get_or hs k None ≡ Some h → sum_by f (map (row cs) (set hs k None)) + f (chain cs h) ≡ sum_by f (map (row cs) hs)
   sum_without k h z e =
-      let within = front_within hs k h e in
+      let within = slot_within hs k h e in
       let many = length-map hs (row cs) in
-      let at = ap f (get_or_map_any (row cs) hs k None ∙ ap (row cs) e) in
+      let at = ap f (get_or-map (row cs) hs k None ∙ ap (row cs) e) in
       let without = ap (sum_by f) (map-set (row cs) hs k None) in
       omega (arith, sum_by-set f (map (row cs) hs) k [] [] (omega arith))
 
@@ -111,7 +88,7 @@ rows_kept cs ds (o ∷ hs) size e same =
 
 short_kept : (cs ds : List Cell) (hs : List (Option ℕ)) → RowsKept cs ds hs → Short cs hs → Short ds hs
 short_kept cs ds hs r s k =
-    let same = ap length (sym (get_or_map_any (row ds) hs k None) ∙ ap (λ is. get_or is k []) r.is ∙ get_or_map_any (row cs) hs k None) in
+    let same = ap length (sym (get_or-map (row ds) hs k None) ∙ ap (λ is. get_or is k []) r.is ∙ get_or-map (row cs) hs k None) in
     let most = s k in
     omega arith
 

@@ -1,8 +1,8 @@
 -- Chains of cells: how one goes on, and what a change of cells leaves of it.
-use Rattle.std.proofs.Common.{◌≡◌, ℕ, zero, suc, ◌+◌, ◌-◌, ◌<◌, ◌≤◌, true, false, cond, eqb, leb, ◌≢◌, List, [], ◌∷◌, ◌++◌, map, length, get_or, sym, refl, ap, ◌∙◌, ap₂, inl, inr, arith}
+use Rattle.std.proofs.Common.{◌≡◌, ℕ, zero, suc, ◌+◌, ◌-◌, ◌<◌, ◌≤◌, true, false, cond, eqb, leb, ◌≢◌, List, [], ◌∷◌, ◌++◌, map, length, sym, refl, ap, ◌∙◌, ap₂, inl, inr, arith}
 use Rattle.std.proofs.lemmas.List.{get_or-set_same, get_or-set_other, length-set}
 use Rattle.std.proofs.lemmas.List.Sums.{sum_by-cons, sum_by-append}
-use Rattle.std.proofs.lemmas.Bool.{eqb-true, eqb-false, eq-eqb, ne_eqb, leb-true, le-leb, and_parts, and_from, cases_Bool, cases_eq}
+use Rattle.std.proofs.lemmas.Bool.{eqb-true, eqb-false, eq-eqb, ne_eqb, leb-true, le-leb, and_parts, and_from, cases_Bool}
 use Rattle.books.specs.declared.cells.Cell.{Cell}
 use Rattle.books.specs.Chained.{cell_at, with_cell, follow, chain, stops, ends, times, literals_in}
 
@@ -85,28 +85,12 @@ pub chain_cons : (cs : List Cell) (h : ℕ) → 0 < h → h ≤ length cs → en
 chain_cons cs h pos within e room =
     chain_linked cs h (h ∷ chain cs (cell_at cs h).next) (refl, pos, within, linked_chain cs (cell_at cs h).next e) (omega arith)
 
--- the cells of a chain are cells of the table
-linked_at : (cs : List Cell) (h : ℕ) (is : List ℕ) (p : ℕ) → Linked cs h is → p < length is → (0 < get_or is p 0) × (get_or is p 0 ≤ length cs)
-linked_at cs h [] p l lt = absurd (omega arith)
-linked_at cs h (i ∷ is) zero (a, b, c, d) lt = (b, c)
-linked_at cs h (i ∷ is) (suc p) (a, b, c, d) lt = linked_at cs (cell_at cs i).next is p d (omega arith)
+-- the literals of a chain, one after another
+pub literals_none : (cs : List Cell) → literals_in cs 0 ≡ []
+literals_none cs = ap (map (λ i. (cell_at cs i).literal)) (chain_none cs).1
 
-pub chain_at : (cs : List Cell) (h p : ℕ) → ends cs h ≡ true → p < length (chain cs h) → (0 < get_or (chain cs h) p 0) × (get_or (chain cs h) p 0 ≤ length cs)
-chain_at cs h p e lt = linked_at cs h (chain cs h) p (linked_chain cs h e) lt
-
--- a walk along a chain
-pub chain_first : (cs : List Cell) (h : ℕ) → ends cs h ≡ true → get_or (chain cs h) 0 0 ≡ h
-chain_first cs h e =
-    elim (cases_eq h 0) [
-      | inl z ↦ rw (z, (chain_none cs).1)
-      | inr ne ↦ ap (λ is. get_or is 0 0) (chain_next cs h e ne).is
-    ]
-
-pub chain_passed : (cs : List Cell) (h next place k : ℕ) → Next cs h → next ≡ (cell_at cs h).next → k < place
-    → get_or (chain cs next) (place - (k + 1)) 0 ≡ get_or (chain cs h) (place - k) 0
-chain_passed cs h next place k n f lt =
-    let e : place - k ≡ suc (place - (k + 1)) = omega arith in
-    rw (f, n.is, e)
+pub literals_next : (cs : List Cell) (h : ℕ) → Next cs h → literals_in cs h ≡ (cell_at cs h).literal ∷ literals_in cs (cell_at cs h).next
+literals_next cs h n = ap (map (λ i. (cell_at cs i).literal)) n.is
 
 -- a chain stays as it is where its cells do
 pub record Kept (cs ds : List Cell) (h : ℕ) : Type 0 where

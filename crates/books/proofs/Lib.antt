@@ -1,9 +1,11 @@
 pub mod BookLaws
 pub mod BookAnswers
+pub mod BookEntries
 pub mod ChainedBooks
 pub mod ChainedHeads
 pub mod ChainedLinks
 pub mod ChainedMoves
+pub mod ChainedWalks
 pub mod ClauseReading
 pub mod PackedBooks
 pub mod PackedLayout

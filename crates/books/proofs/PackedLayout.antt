@@ -1,10 +1,9 @@
 -- Clauses that lie end to end, and their spans.
-use Rattle.std.proofs.Common.{◌≡◌, ℕ, zero, suc, ◌+◌, ◌-◌, ◌<◌, ◌≤◌, List, [], ◌∷◌, ◌++◌, map, length, get_or, take, drop, set, Some, None, Option, sym, refl, ap, ◌∙◌, subst, ap₂, arith}
+use Rattle.std.proofs.Common.{◌≡◌, ℕ, zero, suc, ◌+◌, ◌-◌, ◌<◌, ◌≤◌, List, [], ◌∷◌, ◌++◌, map, length, get_or, take, drop, Some, None, Option, sym, refl, ap, ◌∙◌, subst, ap₂, arith}
 use lib.Seq.{paste}
 use Rattle.std.specs.Option.{option_map}
 use Rattle.std.proofs.lemmas.List.{append_assoc, length-append, length-drop, length-map, length-take, get_or-append_right, get_or-drop, take_all, take_at, drop_at}
 use Rattle.std.proofs.lemmas.List.Edits.{take-paste}
-use Rattle.clauses.specs.Limits.{max_literals}
 use Rattle.books.specs.declared.spans.Span.{Span}
 use Rattle.books.specs.Book.{total_size}
 use Rattle.books.specs.Packed.{slots_in, span_of, end_to_end, spans_from, Lays, Short, LaidOut, without, lowered}
@@ -87,17 +86,3 @@ laid_out ls ss os lays short = subst (λ ps. Lays ls ss ps × Short ps) (sym (sl
 -- no clauses at all
 pub laid_none : (ls : List ℕ) (ss : List (Option Span)) → ls ≡ [] → ss ≡ [] → LaidOut ls ss
 laid_none ls ss e f = rw (e, f) ((refl, refl), λ i. omega arith)
-
--- no clause too long: after one more, and after one less
-pub short_push : (os : List (Option (List ℕ))) (c : List ℕ) → Short os → length c ≤ max_literals → Short (os ++ (Some c ∷ []))
-short_push [] c h le zero = le
-short_push [] c h le (suc i) = h i
-short_push (o ∷ os) c h le zero = h 0
-short_push (o ∷ os) c h le (suc i) = short_push os c (λ j. h (suc j)) le i
-
-pub short_set : (os : List (Option (List ℕ))) (k : ℕ) → Short os → Short (set os k None)
-short_set [] k h i = h i
-short_set (o ∷ os) zero h zero = omega arith
-short_set (o ∷ os) zero h (suc i) = h (suc i)
-short_set (o ∷ os) (suc k) h zero = h 0
-short_set (o ∷ os) (suc k) h (suc i) = short_set os k (λ j. h (suc j)) i

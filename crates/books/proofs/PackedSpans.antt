@@ -1,17 +1,12 @@
 -- The spans of clauses that lie end to end: what a span covers, and what writing and striking do.
-use Rattle.std.proofs.Common.{◌≡◌, ℕ, zero, suc, ◌+◌, ◌-◌, ◌<◌, ◌≤◌, List, [], ◌∷◌, ◌++◌, map, length, get_or, take, drop, set, Some, None, Option, sym, refl, ap, ◌∙◌, subst, ap₂, inl, inr, arith}
+use Rattle.std.proofs.Common.{◌≡◌, ℕ, suc, ◌+◌, ◌-◌, ◌<◌, ◌≤◌, List, [], ◌∷◌, ◌++◌, map, length, get_or, take, drop, set, Some, None, Option, sym, ap, ◌∙◌, subst, ap₂, arith}
 use Rattle.std.specs.Option.{option_map}
-use Rattle.std.proofs.lemmas.List.{append-nil, append_assoc, take_at, drop_at, set_at, length_push, length-map, length-append, length-take-le, get_or_past, get_or_at, get_or-append_right, set-get_or, set_split}
-use Rattle.std.proofs.lemmas.Bool.{cases_lt}
+use Rattle.std.proofs.Math.ListN.{get_or-map}
+use Rattle.std.proofs.lemmas.List.{append-nil, append_assoc, take_at, drop_at, set_at, length_push, length-map, length-append, length-take-le, get_or_at, get_or-append_right, set-get_or, set_split}
 use Rattle.books.specs.declared.spans.Span.{Span}
 use Rattle.books.specs.Packed.{covered, slots_in, span_of, end_to_end, spans_from, Lays, LaidOut, without, lowered, cleared}
+use Rattle.books.proofs.BookEntries.{slot_within}
 use Rattle.books.proofs.PackedLayout.{length_spans, end_to_end-append, spans_append, spans_start, lowered_spans}
-
--- what stands is what the span covers
-pub slot_covered : (ls : List ℕ) (ss : List (Option Span)) (i : ℕ) → get_or (slots_in ls ss) i None ≡ option_map (covered ls) (get_or ss i None)
-slot_covered ls [] i = refl
-slot_covered ls (o ∷ ss) zero = refl
-slot_covered ls (o ∷ ss) (suc i) = slot_covered ls ss i
 
 -- a span at place i, and the slots before and after it
 pub record Placed (ls : List ℕ) (ss : List (Option Span)) (i : ℕ) (s : Span) : Type 0 where
@@ -32,13 +27,10 @@ placed ls ss i s ((e, f), g) h =
     let c = covered ls s in
     let after = drop (suc i) os in
     let many : length os ≡ length ss = length-map ss (option_map (covered ls)) in
-    let lt : i < length ss = elim (cases_lt i (length ss)) [
-      | inl lt ↦ lt
-      | inr le ↦ let n = get_or_past ss i None le in let z : ◌≡◌ {A = ℕ} 0 1 = cc in absurd (omega arith)
-    ] in
+    let lt = slot_within ss i s h in
     let place : length before ≡ i = length-take-le i os (omega arith) in
     let slots : os ≡ before ++ (Some c ∷ after) =
-    sym (set-get_or os i None) ∙ ap (set os i) (slot_covered ls ss i ∙ ap (option_map (covered ls)) h) ∙ set_split os i (Some c) (omega arith) in
+    sym (set-get_or os i None) ∙ ap (set os i) (get_or-map (option_map (covered ls)) ss i None ∙ ap (option_map (covered ls)) h) ∙ set_split os i (Some c) (omega arith) in
     let spans : ss ≡ spans_from 0 before ++ spans_from (0 + length (end_to_end before)) (Some c ∷ after) =
     f ∙ ap (spans_from 0) slots ∙ spans_append 0 before (Some c ∷ after) in
     let at = ap (λ xs. get_or xs i None) spans ∙ get_or_at (spans_from 0 before) _ _ None i (length_spans 0 before ∙ place) in

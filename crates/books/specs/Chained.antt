@@ -1,11 +1,10 @@
 -- A chained book: cells that each name the next one, a head for each number, and a chain of the free cells.
-use Rattle.std.specs.Prelude.{◌≡◌, ℕ, zero, suc, ◌+◌, ◌-◌, ◌<◌, ◌≤◌, Bool, true, cond, ◌&&◌, List, [], ◌∷◌, map, length, Some, None, vec_items, sum_by, count_by, Option, ◌==◌, nat_eq, nat_le, slice_index_or, slice_set}
+use Rattle.std.specs.Prelude.{◌≡◌, ℕ, zero, suc, ◌+◌, ◌-◌, ◌<◌, ◌≤◌, Bool, true, cond, ◌&&◌, List, [], ◌∷◌, map, length, Some, None, sum_by, count_by, Option, ◌==◌, nat_eq, nat_le, slice_index_or, slice_set}
 use Rattle.std.specs.List.{range_with_len}
-use Rattle.std.specs.Option.{option_map}
 use Rattle.clauses.specs.Limits.{max_literals}
 use Rattle.books.specs.declared.cells.Cell.{Cell}
-use Rattle.books.specs.declared.cells.CellTable.{CellTable}
 use Rattle.books.specs.Book.{Book}
+use Rattle.books.specs.Numbers.{entered}
 
 -- an unused cell with the one after it
 abbrev pub unused_cell : ℕ → Cell
@@ -14,10 +13,6 @@ unused_cell next = record { literal = 0; next = next }
 -- n unused cells, each of which names the one before it
 abbrev pub unused : ℕ → List Cell
 unused n = map unused_cell (range_with_len 0 n)
-
--- the cells of a table
-abbrev pub cells_of : CellTable → List Cell
-cells_of t = vec_items t.cells
 
 -- the cell under a number; numbers count from 1
 abbrev pub cell_at : List Cell → ℕ → Cell
@@ -76,11 +71,7 @@ literals_in cs h = map (λ i. (cell_at cs i).literal) (chain cs h)
 
 -- the book of t numbers with these cells and heads
 abbrev pub chained : List Cell → List (Option ℕ) → ℕ → Book
-chained cs hs t = record { slots = map (option_map (literals_in cs)) hs; numbers = t; cells = length cs }
-
--- the head under a number, if its clause stands; numbers count from 1
-abbrev pub head_at : List (Option ℕ) → ℕ → Option ℕ
-head_at hs k = cond (k == 0) None (slice_index_or hs (k - 1) None)
+chained cs hs t = entered (literals_in cs) hs t (length cs)
 
 -- the chains from a and from b hold the cells `all` between them, and the other cells are as they were
 pub record Parted (old new : List Cell) (all : List ℕ) (a b : ℕ) : Type 0 where

@@ -1,9 +1,10 @@
 -- A packed book: the literals of its clauses end to end in one list, and a span for each clause that stands.
-use Rattle.std.specs.Prelude.{◌≡◌, ℕ, ◌+◌, ◌-◌, ◌≤◌, cond, List, [], ◌∷◌, ◌++◌, map, length, take, drop, Some, None, Option, ◌==◌, slice_index_or}
+use Rattle.std.specs.Prelude.{◌≡◌, ℕ, ◌+◌, ◌-◌, ◌≤◌, List, [], ◌∷◌, ◌++◌, map, length, take, drop, Some, None, Option, slice_index_or}
 use Rattle.std.specs.Option.{option_map}
 use Rattle.clauses.specs.Limits.{max_literals}
 use Rattle.books.specs.declared.spans.Span.{Span}
 use Rattle.books.specs.Book.{Book, slot_size}
+use Rattle.books.specs.Numbers.{entered}
 
 -- the span of n literals from a place on
 abbrev pub span_of : ℕ → ℕ → Span
@@ -19,11 +20,7 @@ slots_in ls ss = map (option_map (covered ls)) ss
 
 -- the book of t numbers and l cells with these literals and spans
 abbrev pub packed : List ℕ → List (Option Span) → ℕ → ℕ → Book
-packed ls ss t l = record { slots = slots_in ls ss; numbers = t; cells = l }
-
--- the span under a number, if its clause stands; numbers count from 1
-abbrev pub span_at : List (Option Span) → ℕ → Option Span
-span_at ss k = cond (k == 0) None (slice_index_or ss (k - 1) None)
+packed ls ss t l = entered (covered ls) ss t l
 
 -- the literals of the slots, end to end
 abbrev pub end_to_end : List (Option (List ℕ)) → List ℕ

@@ -18,6 +18,10 @@ max_cells = 6144
 abbrev pub oversized : ℕ → ℕ → Bool
 oversized t l = nat_lt max_numbers t || nat_lt max_cells l
 
+-- what a check of the sizes answers
+abbrev pub sizes_answer : ℕ → ℕ → Result (Unit {0}) Refusal
+sizes_answer t l = cond (oversized t l) (Err Size) (Ok tt)
+
 -- what making a book of t numbers and l cells answers: an empty book within the limits, or why there is none
 abbrev pub Made : {B : Type 0} → (B → Book) → ℕ → ℕ → Result B Refusal → Type 0
 Made meaning t l (Ok b) = (t ≤ max_numbers) × (l ≤ max_cells) × (meaning b ≡ empty t l)
@@ -31,6 +35,10 @@ granted (Err e) new old = old
 -- no number is left, or too few cells
 abbrev pub full : Book → List ℕ → Bool
 full b c = free_numbers b == 0 || nat_lt (free_cells b) (length c)
+
+-- what a check of the room for n literals answers, where t numbers and l cells are free
+abbrev pub room_answer : ℕ → ℕ → ℕ → Result (Unit {0}) Refusal
+room_answer t l n = cond (nat_lt max_literals n) (Err LongClause) (cond (t == 0 || nat_lt l n) (Err BookFull) (Ok tt))
 
 abbrev pub write_answer : Book → List ℕ → Result ℕ Refusal
 write_answer b c = cond (nat_lt max_literals (length c)) (Err LongClause) (cond (full b c) (Err BookFull) (Ok (given b + 1)))

@@ -1,8 +1,10 @@
 // The cells that a chained book keeps its literals in.
-ghost use Rattle.std.specs.Prelude.{◌≡◌, ◌<◌, ◌≤◌, length, IfOk};
-ghost use Rattle.books.specs.Chained.{cells_of, cell_at, with_cell, unused};
+ghost use Rattle.std.specs.Prelude.{◌≡◌, ◌<◌, ◌≤◌, true, length, IfOk};
+ghost use Rattle.std.specs.Iterator.{YieldsFirst, item_count};
+ghost use Rattle.books.specs.Chained.{cell_at, with_cell, unused, ends, literals_in};
 
 use std::alloc::{AllocError, Global};
+use std::marker::Model;
 
 // A literal, and the number of the next cell: 0 at the end of a chain.
 #[derive(Clone, Copy)]
@@ -17,10 +19,20 @@ pub struct CellTable {
     cells: Vec<Cell>,
 }
 
+// Callers see the list of the cells.
+impl Model for CellTable {
+    ghost use Rattle.std.specs.Prelude.{List};
+    ghost use Rattle.books.specs.declared.cells.Cell.{Cell};
+
+    ghost Value = { List Cell };
+
+    ghost view = { λ t. t.cells.items };
+}
+
 impl CellTable {
     // Unused cells, each of which names the one before it.
     pub fn new(heap: Global, count: u32) -> Result<CellTable, AllocError>
-        ensures { IfOk result (λ t. cells_of t ≡ unused count) }
+        ensures { IfOk result (λ t. t ≡ unused count) }
     {
         let mut cells = Vec::with_capacity(heap, count as usize)?;
         for next in 0..count {
@@ -32,8 +44,8 @@ impl CellTable {
     // The cell under a number.
     pub fn get(&self, number: u32) -> Cell
         requires number_nonzero { 0 < number }
-        requires number_in_bounds { number ≤ length (cells_of self.now) }
-        ensures { result ≡ cell_at (cells_of self.now) number }
+        requires number_in_bounds { number ≤ length self.now }
+        ensures { result ≡ cell_at self.now number }
     {
         self.cells[number as usize - 1]
     }
@@ -41,9 +53,56 @@ impl CellTable {
     // Changes the cell under a number: no cell is changed otherwise.
     pub fn set(&mut self, number: u32, cell: Cell)
         requires number_nonzero { 0 < number }
-        requires number_in_bounds { number ≤ length (cells_of self.old) }
-        ensures { cells_of self.new ≡ with_cell (cells_of self.old) number cell }
+        requires number_in_bounds { number ≤ length self.old }
+        ensures { self.new ≡ with_cell self.old number cell }
     {
         self.cells[number as usize - 1] = cell;
+    }
+
+    // The literals in the chain from a cell on.
+    pub fn chain(&self, first: u32) -> Chain<'_>
+        requires { ends self.now first ≡ true }
+        ensures { result ≡ literals_in self.now first }
+    {
+        Chain {
+            table: self,
+            next: first,
+        }
+    }
+}
+
+// The literals in a chain of cells that comes to an end, first to last.
+#[derive(Drop)]
+pub struct Chain<'a> {
+    table: &'a CellTable,
+    next: u32,
+}
+
+// Callers see the list of the literals that are left.
+impl<'a> Model for Chain<'a> {
+    ghost use Rattle.std.specs.Prelude.{◌≡◌, ℕ, List, true};
+    ghost use Rattle.books.specs.Chained.{ends, literals_in};
+
+    ghost Value = { List ℕ };
+
+    ghost view = { λ c. literals_in c.table.now c.next };
+
+    ghost invariant = { λ c. ends c.table.now c.next ≡ true };
+}
+
+impl Iterator for Chain<'_> {
+    type Item = u32;
+
+    ghost next_gives = { YieldsFirst (λ left. left) };
+
+    ghost remaining = { item_count (λ left. left) };
+
+    fn next(&mut self) -> Option<u32> {
+        if self.next == 0 {
+            return None;
+        }
+        let Cell { literal, next } = self.table.get(self.next);
+        self.next = next;
+        Some(literal)
     }
 }

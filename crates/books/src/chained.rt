@@ -1,64 +1,26 @@
 // A clause book whose clauses are chains of cells: the cells of a struck clause are used again.
-ghost use Rattle.std.specs.Prelude.{◌≡◌, ℕ, ◌≤◌, true, ◌∷◌, ◌++◌, length, Some, vec_len, vec_capacity, slice_index};
-ghost use Rattle.std.specs.Option.{ok_or};
-ghost use Rattle.clauses.specs.declared.refusals.Refusal.TheVariants.{NoClause};
-ghost use Rattle.books.specs.Promise.{Made, Sized, max_numbers, max_cells};
-ghost use Rattle.books.specs.Chained.{cells_of, chain, times, ends, Sound, Short, chained, head_at, Parted, literals_in};
+ghost use Rattle.std.specs.Prelude.{◌≡◌, ℕ, ◌≤◌, true, ◌∷◌, ◌++◌, length, Some, slice_get};
+ghost use Rattle.books.specs.Promise.{Sized, max_cells};
+ghost use Rattle.books.specs.Chained.{chain, times, ends, Sound, Short, chained, Parted, literals_in};
 
 use crate::cells::{Cell, CellTable};
-use crate::clause_book::{ClauseBook, MAX_CELLS, MAX_NUMBERS};
+use crate::clause_book::{ClauseBook, NewBook, check_room, check_sizes};
+use crate::numbers::Numbers;
 use clauses::Refusal;
-use clauses::limits::MAX_LITERALS;
 use std::alloc::Global;
 
-// The number k has the first cell of its clause at place k - 1 of the heads, and none once the clause is struck.
+// Each number whose clause stands has the first cell of the clause.
 // The free cells are a chain too, from `free` on, of `spare` cells.
 #[derive(Drop)]
 pub struct ChainedBook {
     table: CellTable,
-    heads: Vec<Option<u32>>,
+    numbers: Numbers<u32>,
     free: u32,
     spare: u32,
-    numbers: u32,
-    ghost sound: { Sound (cells_of table) (Some free ∷ heads.items) },
-    ghost short: { Short (cells_of table) heads.items },
-    ghost keeps: { (spare ≡ length (chain (cells_of table) free)) × (length (cells_of table) ≤ max_cells) },
-    ghost gives: { (vec_len heads ≤ numbers) × (numbers ≤ vec_capacity heads) × (numbers ≤ max_numbers) },
-    ghost within: { Sized (chained (cells_of table) heads.items numbers) },
-}
-
-impl ChainedBook {
-    // An empty book that gives up to `numbers` numbers and keeps up to `cells` literals.
-    pub fn new(heap: Global, numbers: u32, cells: u32) -> Result<ChainedBook, Refusal>
-        ensures { Made (λ b. chained (cells_of b.table) b.heads.items b.numbers) numbers cells result }
-    {
-        if numbers > MAX_NUMBERS || cells > MAX_CELLS {
-            return Err(Refusal::Size);
-        }
-        let Ok(table) = CellTable::new(heap, cells) else {
-            return Err(Refusal::OutOfMemory);
-        };
-        let Ok(heads) = Vec::with_capacity(heap, numbers as usize) else {
-            return Err(Refusal::OutOfMemory);
-        };
-        Ok(ChainedBook {
-            table,
-            heads,
-            free: cells,
-            spare: cells,
-            numbers,
-        })
-    }
-
-    // The first cell of the clause under a number.
-    fn head(&self, number: u32) -> Result<u32, Refusal>
-        ensures { result ≡ ok_or (head_at self.now.heads.items number) NoClause }
-    {
-        if number == 0 || number as usize > self.heads.len() {
-            return Err(Refusal::NoClause);
-        }
-        self.heads[number as usize - 1].ok_or(Refusal::NoClause)
-    }
+    ghost sound: { Sound table (Some free ∷ numbers.slots.items) },
+    ghost short: { Short table numbers.slots.items },
+    ghost keeps: { (spare ≡ length (chain table free)) × (length table ≤ max_cells) },
+    ghost within: { Sized (chained table numbers.slots.items numbers.most) },
 }
 
 // Where two chains begin: that of a new clause, and that of the cells still free.
@@ -70,11 +32,11 @@ struct Fronts {
 
 // Takes a free cell for each literal, the last literal first, and chains them.
 fn take_cells(table: &mut CellTable, mut free: u32, literals: &[u32]) -> Fronts
-    requires free { ends (cells_of table.old) free ≡ true }
-    requires once { (i : ℕ) → times i (chain (cells_of table.old) free) ≤ 1 }
-    requires enough { length literals.now ≤ length (chain (cells_of table.old) free) }
-    ensures parted { Parted (cells_of table.old) (cells_of table.new) (chain (cells_of table.old) free) result.free result.first }
-    ensures holds { literals_in (cells_of table.new) result.first ≡ literals.now }
+    requires free { ends table.old free ≡ true }
+    requires once { (i : ℕ) → times i (chain table.old free) ≤ 1 }
+    requires enough { length literals.now ≤ length (chain table.old free) }
+    ensures parted { Parted table.old table.new (chain table.old free) result.free result.first }
+    ensures holds { literals_in table.new result.first ≡ literals.now }
 {
     let mut first = 0;
     for literal in literals.iter().rev() {
@@ -93,12 +55,13 @@ fn take_cells(table: &mut CellTable, mut free: u32, literals: &[u32]) -> Fronts
 }
 
 // Puts the cells of a chain before the free ones, and says where these begin then.
+// The walk is by hand, since it changes the cells that it passes.
 fn give_back(table: &mut CellTable, first: u32, mut free: u32) -> u32
-    requires first { ends (cells_of table.old) first ≡ true }
-    requires free { ends (cells_of table.old) free ≡ true }
-    requires room { length (chain (cells_of table.old) first ++ chain (cells_of table.old) free) ≤ length (cells_of table.old) }
-    requires once { (i : ℕ) → times i (chain (cells_of table.old) first ++ chain (cells_of table.old) free) ≤ 1 }
-    ensures { Parted (cells_of table.old) (cells_of table.new) (chain (cells_of table.old) first ++ chain (cells_of table.old) free) 0 result }
+    requires first { ends table.old first ≡ true }
+    requires free { ends table.old free ≡ true }
+    requires room { length (chain table.old first ++ chain table.old free) ≤ length table.old }
+    requires once { (i : ℕ) → times i (chain table.old first ++ chain table.old free) ≤ 1 }
+    ensures { Parted table.old table.new (chain table.old first ++ chain table.old free) 0 result }
 {
     let mut left = first;
     while left != 0 {
@@ -116,87 +79,62 @@ fn give_back(table: &mut CellTable, first: u32, mut free: u32) -> u32
     free
 }
 
-// How many cells a chain has.
-fn chain_length(table: &CellTable, first: u32) -> u32
-    requires ends { ends (cells_of table.now) first ≡ true }
-    requires small { length (cells_of table.now) ≤ max_cells }
-    ensures { result ≡ length (chain (cells_of table.now) first) }
-{
-    let mut cell = first;
-    let mut count = 0;
-    while cell != 0 {
-        cell = table.get(cell).next;
-        count += 1;
-    }
-    count
-}
-
-// The cell at a place, from 0, of a chain, and 0 past its end.
-fn nth_cell(table: &CellTable, first: u32, place: u32) -> u32
-    requires { ends (cells_of table.now) first ≡ true }
-    ensures { result ≡ slice_index (chain (cells_of table.now) first) place }
-{
-    let mut cell = first;
-    for passed in 0..place {
-        if cell == 0 {
-            return 0;
-        }
-        cell = table.get(cell).next;
-    }
-    cell
-}
-
 impl ClauseBook for ChainedBook {
-    ghost meaning = { λ s. chained (cells_of s.table) s.heads.items s.numbers };
+    ghost meaning = { λ s. chained s.table s.numbers.slots.items s.numbers.most };
 
     ghost sized = { λ s. s.within };
 
     fn write(&mut self, literals: &[u32]) -> Result<u32, Refusal> {
-        if literals.len() > MAX_LITERALS {
-            return Err(Refusal::LongClause);
-        }
-        if self.free_numbers() == 0 || (self.free_cells() as usize) < literals.len() {
-            return Err(Refusal::BookFull);
-        }
+        check_room(literals.len(), self.free_numbers(), self.free_cells())?;
         let fronts = take_cells(&mut self.table, self.free, literals);
-        self.heads.push_reserved(Some(fronts.first));
         self.free = fronts.free;
         self.spare -= literals.len() as u32;
-        Ok(self.heads.len() as u32)
+        Ok(self.numbers.give(fronts.first))
     }
 
     fn length(&self, number: u32) -> Result<u32, Refusal> {
-        let first = self.head(number)?;
-        Ok(chain_length(&self.table, first))
+        let first = self.numbers.get(number)?;
+        Ok(self.table.chain(first).count() as u32)
     }
 
     fn literal(&self, number: u32, place: u32) -> Result<u32, Refusal> {
-        let first = self.head(number)?;
-        let cell = nth_cell(&self.table, first, place);
-        if cell == 0 {
-            return Err(Refusal::NoClause);
-        }
-        Ok(self.table.get(cell).literal)
+        let first = self.numbers.get(number)?;
+        self.table
+            .chain(first)
+            .nth(place as usize)
+            .ok_or(Refusal::NoClause)
     }
 
     fn strike(&mut self, number: u32) -> Result<(), Refusal> {
-        let first = self.head(number)?;
-        let length = chain_length(&self.table, first);
+        let first = self.numbers.get(number)?;
+        let length = self.table.chain(first).count() as u32;
         self.free = give_back(&mut self.table, first, self.free);
         self.spare += length;
-        self.heads[number as usize - 1] = None;
+        self.numbers.clear(number);
         Ok(())
     }
 
     fn given(&self) -> u32 {
-        self.heads.len() as u32
+        self.numbers.given()
     }
 
     fn free_numbers(&self) -> u32 {
-        self.numbers - self.heads.len() as u32
+        self.numbers.free()
     }
 
     fn free_cells(&self) -> u32 {
         self.spare
+    }
+}
+
+impl NewBook for ChainedBook {
+    fn new(heap: Global, numbers: u32, cells: u32) -> Result<ChainedBook, Refusal> {
+        check_sizes(numbers, cells)?;
+        Ok(ChainedBook {
+            table: CellTable::new(heap, cells)?,
+            numbers: Numbers::new(heap, numbers)?,
+            free: cells,
+            spare: cells,
+        })
     }
 }

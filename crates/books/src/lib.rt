@@ -4,11 +4,12 @@
 mod cells;
 pub mod chained;
 pub mod clause_book;
+mod numbers;
 pub mod packed;
 pub mod reading;
 pub mod spans;
 
 pub use chained::ChainedBook;
-pub use clause_book::ClauseBook;
+pub use clause_book::{ClauseBook, NewBook};
 pub use packed::PackedBook;
 pub use reading::read_clause;

@@ -13,8 +13,8 @@ pub fn read_clause<B: ClauseBook>(book: &B, number: u32, out: &mut [u32]) -> Res
     ensures buffer { out.new ≡ read_buffer (clause_at (B.ClauseBook.meaning book.now) number) out.old }
 {
     let count = book.length(number)?;
-    for place in 0..count {
-        out[place as usize] = book.literal(number, place)?;
+    for (place, literal) in out[..count as usize].iter_mut().enumerate() {
+        *literal = book.literal(number, place as u32)?;
     }
     Ok(count as usize)
 }

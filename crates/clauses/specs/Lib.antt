@@ -6,3 +6,4 @@ pub mod Few
 pub mod Joining
 pub mod JoiningLaw
 pub mod Refusals
+pub mod Answers

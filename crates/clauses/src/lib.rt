@@ -8,4 +8,4 @@ pub mod limits;
 pub mod literals;
 pub mod refusals;
 
-pub use refusals::Refusal;
+pub use refusals::{Answer, Refusal};

@@ -133,3 +133,20 @@ impl From<AllocError> for Refusal {
         Refusal::OutOfMemory
     }
 }
+
+// What a call answered, as a person reads it: the number, or why it was refused.
+#[derive(Clone, Copy)]
+pub struct Answer(pub Result<u32, Refusal>);
+
+impl fmt::Display for Answer {
+    ghost use Rattle.clauses.specs.Answers.{answer_text};
+
+    ghost output = { λ a. Some (answer_text a.0) };
+
+    fn fmt<W: fmt::Write>(&self, f: &mut fmt::Formatter<W>) -> fmt::Result {
+        match self.0 {
+            Ok(number) => write!(f, "{number}"),
+            Err(refusal) => write!(f, "refused, {refusal}"),
+        }
+    }
+}

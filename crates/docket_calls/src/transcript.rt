@@ -1,82 +1,57 @@
 // Goes through calls on a docket, and says what each answered.
 use books::ClauseBook;
-use clauses::Refusal;
+use clauses::{Answer, Refusal};
 use gates::GateKind;
 use plans::Plan;
 use referee::{Call, Docket};
 use std::alloc::{AllocError, Global};
+use std::fmt::{Display, Write};
 
-fn put_operands(text: &mut String, heap: Global, operands: &[u32]) -> Result<(), AllocError> {
-    for operand in operands {
-        let shown = format!(in heap; " {operand}")?;
-        text.push_str(shown.as_str())?;
+// A blank before each number, and a colon behind the last.
+fn put_list<T: Display>(text: &mut String, numbers: &[T]) -> Result<(), AllocError> {
+    for number in numbers {
+        write!(text, " {number}")?;
     }
     text.push_str(": ")
 }
 
-fn put_setting(text: &mut String, heap: Global, setting: &[u8]) -> Result<(), AllocError> {
-    for byte in setting {
-        let shown = format!(in heap; " {byte}")?;
-        text.push_str(shown.as_str())?;
-    }
-    text.push_str(": ")
-}
-
-fn put_call(text: &mut String, heap: Global, call: Call) -> Result<(), AllocError> {
-    let shown = match call {
-        Call::Define(signal, code, _) => format!(in heap; "define {signal} by code {code} on")?,
-        Call::Resolve(left, right) => format!(in heap; "resolve {left} {right}: ")?,
-        Call::Strike(number) => format!(in heap; "strike {number}: ")?,
-        Call::Settle(number) => format!(in heap; "settle {number}: ")?,
-        Call::Show(_) => format!(in heap; "show")?,
-    };
-    text.push_str(shown.as_str())?;
+fn put_call(text: &mut String, call: Call) -> Result<(), AllocError> {
     match call {
-        Call::Define(_, _, operands) => put_operands(text, heap, operands),
-        Call::Show(setting) => put_setting(text, heap, setting),
-        Call::Resolve(_, _) | Call::Strike(_) | Call::Settle(_) => Ok(()),
-    }
-}
-
-fn put_answer(
-    text: &mut String,
-    heap: Global,
-    answer: Result<u32, Refusal>,
-) -> Result<(), AllocError> {
-    let shown = match answer {
-        Ok(number) => format!(in heap; "{number}\n")?,
-        Err(refusal) => {
-            let words = refusal.words();
-            format!(in heap; "refused, {words}\n")?
+        Call::Define(signal, code, operands) => {
+            write!(text, "define {signal} by code {code} on")?;
+            put_list(text, operands)
         }
-    };
-    text.push_str(shown.as_str())
+        Call::Resolve(left, right) => write!(text, "resolve {left} {right}: "),
+        Call::Strike(number) => write!(text, "strike {number}: "),
+        Call::Settle(number) => write!(text, "settle {number}: "),
+        Call::Show(setting) => {
+            text.push_str("show")?;
+            put_list(text, setting)
+        }
+    }
 }
 
 fn put_state<G: GateKind, B: ClauseBook>(
     text: &mut String,
-    heap: Global,
     docket: &Docket<G, B>,
 ) -> Result<(), AllocError> {
-    let words = docket.standing().words();
+    let standing = docket.standing();
     let signals = docket.in_use();
     let given = docket.book().given();
-    let shown = format!(in heap; "{words}; {signals} signals, {given} numbers given\n")?;
-    text.push_str(shown.as_str())
+    writeln!(text, "{standing}; {signals} signals, {given} numbers given")
 }
 
 fn put_calls<G: GateKind, B: ClauseBook>(
     text: &mut String,
-    heap: Global,
     docket: &mut Docket<G, B>,
     calls: &[Call],
 ) -> Result<(), AllocError> {
-    put_state(text, heap, docket)?;
+    put_state(text, docket)?;
     for call in calls {
-        put_call(text, heap, *call)?;
-        let answer = docket.make(*call);
-        put_answer(text, heap, answer)?;
-        put_state(text, heap, docket)?;
+        put_call(text, *call)?;
+        let answer = Answer(docket.make(*call));
+        writeln!(text, "{answer}")?;
+        put_state(text, docket)?;
     }
     Ok(())
 }
@@ -90,7 +65,7 @@ pub fn transcript<G: GateKind, B: ClauseBook>(
 ) -> Result<(String, B), (Refusal, B)> {
     let mut docket = Docket::<G, B>::open(heap, plan, book)?;
     let mut text = String::new(heap);
-    let put = put_calls(&mut text, heap, &mut docket, calls);
+    let put = put_calls(&mut text, &mut docket, calls);
     let book = docket.close();
     match put {
         Ok(()) => Ok((text, book)),

@@ -1,28 +1,12 @@
 -- What a plan answers to a formula, case by case.
-use Rattle.std.proofs.Common.{◌≡◌, ℕ, ◌<◌, ◌≤◌, true, false, List, [], ◌∷◌, map, length, is_err, Some, None, Ok, Err, Option, Result, sym, refl, inl, inr, arith}
-use lib.ListN.{length-map}
-use Rattle.std.proofs.lemmas.Bool.{cases_Bool, eq-eqb, ne_eqb, lt-ltb, le-ltb, false≢true}
-use Rattle.clauses.specs.declared.refusals.Refusal.{Refusal}
+use Rattle.std.proofs.Common.{◌≡◌, ℕ, ◌<◌, ◌≤◌, true, false, List, [], ◌∷◌, length, Some, None, Err, Option, sym, refl, arith}
+use Rattle.std.proofs.lemmas.Bool.{lt-ltb, le-ltb, false≢true}
 use Rattle.clauses.specs.declared.refusals.Refusal.TheVariants.{LongText, OutOfPlace}
 use Rattle.clauses.specs.Limits.{max_text, max_nesting}
-use Rattle.gates.specs.declared.records.NodeRecord.{NodeRecord}
 use Rattle.gates.specs.Kinds.{Kind}
-use Rattle.gates.specs.Nodes.{Node, node_of}
+use Rattle.gates.specs.Nodes.{Node}
 use Rattle.model.specs.Plans.{Plan, complete, begun}
-use Rattle.formulas.specs.Reading.{read, then_root, fresh, formula_answer, formula_done, formula_plan}
-
--- which plans have neither gates nor a root
-pub complete_not_fresh : (p : Plan) → complete p ≡ true → fresh p ≡ false
-complete_not_fresh p h = rw h refl
-
-pub gates_not_fresh : (p : Plan) → (length p.gates ≡ 0 → ⊥) → fresh p ≡ false
-gates_not_fresh p some = elim (cases_Bool (complete p)) [ inl t ↦ rw t refl | inr t ↦ rw (t, ne_eqb _ 0 some) refl ]
-
-pub is_fresh : (p : Plan) → complete p ≡ false → length p.gates ≡ 0 → fresh p ≡ true
-is_fresh p h z = rw (h, eq-eqb _ 0 z) refl
-
-pub count_records : (rs : List NodeRecord) (gs : List Node) → map node_of rs ≡ gs → length gs ≡ length rs
-count_records rs gs e = rw (← e) (length-map rs node_of)
+use Rattle.formulas.specs.Reading.{read, then_root, fresh, formula_answer}
 
 begun_parts : (n : ℕ) (gs : List Node) (r : Option ℕ) → complete record { switches = n; gates = gs; root = r } ≡ false → length gs ≡ 0 → ◌≡◌ {A = Plan} record { switches = n; gates = gs; root = r } (begun n)
 begun_parts n [] None h z = refl
@@ -43,12 +27,3 @@ module _ (K : Kind) (p : Plan) (text : List ℕ) where
 
   pub as_read : fresh p ≡ true → length text ≤ max_text → formula_answer K p text ≡ then_root (read K max_nesting text p)
   as_read h l = rw (h, le-ltb _ _ l) refl
-
--- the plan after a refusal, and after an accepted formula
-pub refused_plan : (a : Result Plan Refusal) (r : Result (Unit {0}) Refusal) (p : Plan) → r ≡ formula_done a → is_err r ≡ true → formula_plan a p ≡ p
-refused_plan (Ok q) r p e h = absurd (false≢true (rw e at h))
-refused_plan (Err x) r p e h = refl
-
-pub accepted_plan : (a : Result Plan Refusal) (r : Result (Unit {0}) Refusal) (p q : Plan) → r ≡ formula_done a → is_err r ≡ false → q ≡ formula_plan a q → q ≡ formula_plan a p
-accepted_plan (Ok s) r p q e h f = f
-accepted_plan (Err x) r p q e h f = absurd (false≢true (sym (rw e at h)))

@@ -8,7 +8,9 @@ use Rattle.gates.specs.Nodes.{Node}
 use Rattle.gates.specs.TwoInput.{two_input, two_arity}
 use Rattle.model.specs.Plans.{Plan, node, signals, complete, is_signal, are_signals, gate_answer, with_gate}
 use Rattle.formulas.specs.Reading.{Read, add_gate}
-use Rattle.formulas.specs.Trees.{Sign, And, Or, Then, If, Same, Differ, operator_code, Formula, Switch, Not, Join, gate_count, Over, gates_of}
+use Rattle.formulas.specs.declared.signs.Sign.{Sign}
+use Rattle.formulas.specs.declared.signs.Sign.TheVariants.{And, Or, Then, If, Same, Differ}
+use Rattle.formulas.specs.Trees.{operator_code, Formula, Switch, Not, Join, gate_count, Over, gates_of}
 use Rattle.formulas.proofs.ReadingSteps.{added}
 
 -- the plan with the gates of a formula behind its own

@@ -12,7 +12,9 @@ use Rattle.model.proofs.Reasons.{none_hold}
 use Rattle.texts.specs.Numbers.{number_answer}
 use Rattle.texts.proofs.Decimals.{number_spelt}
 use Rattle.formulas.specs.Reading.{Outcome, Fault, Read, add_gate, digit_count, sign_code, as_switch, read_switch, then_not, then_close, then_right, then_sign, read}
-use Rattle.formulas.specs.Trees.{Sign, And, Or, Then, If, Same, Differ, sign_byte, operator_code, Formula, Switch, Not, Join, spell, nesting, gate_count, Over, gates_of}
+use Rattle.formulas.specs.declared.signs.Sign.{Sign}
+use Rattle.formulas.specs.declared.signs.Sign.TheVariants.{And, Or, Then, If, Same, Differ}
+use Rattle.formulas.specs.Trees.{sign_byte, operator_code, Formula, Switch, Not, Join, spell, nesting, gate_count, Over, gates_of}
 use Rattle.formulas.proofs.ReadingSteps.{added}
 use Rattle.formulas.proofs.FormulaGates.{grown, gates_length}
 

@@ -1,5 +1,5 @@
 -- The equations of reading a formula, one for each way through the code.
-use Rattle.std.proofs.Common.{◌≡◌, ℕ, zero, suc, ◌-◌, List, [], ◌∷◌, Some, None, Ok, Err, Result, sym, refl, ap, ◌∙◌, subst, sub-one, arith}
+use Rattle.std.proofs.Common.{◌≡◌, ℕ, zero, suc, List, [], ◌∷◌, Some, None, Ok, Err, Result, sym, refl, ap, ◌∙◌, subst, arith}
 use Rattle.std.proofs.lemmas.Bool.{ne_eqb}
 use Rattle.clauses.specs.declared.refusals.Refusal.{Refusal}
 use Rattle.clauses.specs.declared.refusals.Refusal.TheVariants.{BadLine, TooDeep}
@@ -7,7 +7,10 @@ use Rattle.books.specs.Promise.{granted}
 use Rattle.gates.specs.Kinds.{Kind}
 use Rattle.model.specs.Plans.{Plan, node, gate_answer, with_gate}
 use Rattle.texts.specs.Characters.{first, behind}
+use Rattle.formulas.specs.declared.signs.Sign.{Sign}
+use Rattle.formulas.specs.declared.signs.Sign.TheVariants.{And, Or, Then, If, Same, Differ}
 use Rattle.formulas.specs.Reading.{Outcome, Fault, Read, outcome, add_gate, read, read_switch, sign_code, then_not, then_sign, then_close}
+use Rattle.formulas.specs.Trees.{sign_byte, operator_code}
 
 -- adding a gate by what the plan answers
 abbrev pub added : ℕ → List ℕ → List ℕ → Plan → Result ℕ Refusal → Outcome
@@ -19,9 +22,14 @@ pub gate_outcome : (K : Kind) (code : ℕ) (operands rest : List ℕ) (p q : Pla
 gate_outcome K code operands rest p q (Ok s) e f = subst (λ (x : Result ℕ Refusal). Read s rest q ≡ added code operands rest p x) e (ap (Read s rest) f)
 gate_outcome K code operands rest p q (Err x) e f = subst (λ (y : Result ℕ Refusal). Fault x ≡ added code operands rest p y) e refl
 
-pub gate_switches : (r : Result ℕ Refusal) (p q : Plan) (code : ℕ) (operands : List ℕ) → q ≡ granted r (with_gate p (node code operands)) p → q.switches ≡ p.switches
-gate_switches (Ok s) p q code operands f = rw f refl
-gate_switches (Err x) p q code operands f = rw f refl
+-- a sign's byte has its code
+pub sign_known : (s : Sign) → sign_code (sign_byte s) ≡ Some (operator_code s)
+sign_known And = refl
+sign_known Or = refl
+sign_known Then = refl
+sign_known If = refl
+sign_known Same = refl
+sign_known Differ = refl
 
 module _ (K : Kind) where
   -- too deep
@@ -38,17 +46,15 @@ module _ (K : Kind) where
   deep_open (suc d) (b ∷ bs) p z f = absurd (omega arith)
 
   -- by the first character
-  read_not : (d : ℕ) (rest : List ℕ) (p : Plan) → (d ≡ 0 → ⊥) → Some 45 ≡ first rest → read K d rest p ≡ then_not K (read K (d - 1) (behind rest) p)
+  read_not : (d : ℕ) (rest : List ℕ) (p : Plan) → Some 45 ≡ first rest → read K (suc d) rest p ≡ then_not K (read K d (behind rest) p)
   unfolding read
-  read_not d [] p nz f = absurd (grind arith)
-  read_not zero (b ∷ bs) p nz f = absurd (nz refl)
-  read_not (suc d) (b ∷ bs) p nz f = let e : b ≡ 45 = grind arith in rw (e, sub-one) refl
+  read_not d [] p f = absurd (grind arith)
+  read_not d (b ∷ bs) p f = let e : b ≡ 45 = grind arith in rw e refl
 
-  read_open : (d : ℕ) (rest : List ℕ) (p : Plan) → (d ≡ 0 → ⊥) → Some 40 ≡ first rest → read K d rest p ≡ then_sign K (read K (d - 1)) (read K (d - 1) (behind rest) p)
+  read_open : (d : ℕ) (rest : List ℕ) (p : Plan) → Some 40 ≡ first rest → read K (suc d) rest p ≡ then_sign K (read K d) (read K d (behind rest) p)
   unfolding read
-  read_open d [] p nz f = absurd (grind arith)
-  read_open zero (b ∷ bs) p nz f = absurd (nz refl)
-  read_open (suc d) (b ∷ bs) p nz f = let e : b ≡ 40 = grind arith in rw (e, sub-one) refl
+  read_open d [] p f = absurd (grind arith)
+  read_open d (b ∷ bs) p f = let e : b ≡ 40 = grind arith in rw e refl
 
   pub read_else : (d : ℕ) (rest : List ℕ) (p : Plan) → (Some 45 ≡ first rest → ⊥) → (Some 40 ≡ first rest → ⊥) → read_switch rest p ≡ read K d rest p
   unfolding read
@@ -62,47 +68,53 @@ module _ (K : Kind) where
       let o' : b ≡ 40 → ⊥ = λ e. o (rw e refl) in
       rw (ne_eqb b 45 m', ne_eqb b 40 o')
 
-  -- rest₁ stands behind the first character of rest
-  module _ (d : ℕ) (rest rest₁ : List ℕ) (p : Plan) (nz : d ≡ 0 → ⊥) (past : rest₁ ≡ behind rest) where
-    pub not_fault : Some 45 ≡ first rest → (e : Refusal) → Fault e ≡ read K (d - 1) rest₁ p → Fault e ≡ read K d rest p
-    not_fault f e g = sym (read_not d rest p nz f ∙ rw (← past, ← g) refl)
+  -- d goes one deeper, and rest₁ stands behind the first character of rest
+  module _ (deep d : ℕ) (deeper : deep ≡ suc d) (rest rest₁ : List ℕ) (p : Plan) (past : rest₁ ≡ behind rest) where
+    not_is : Some 45 ≡ first rest → read K deep rest p ≡ then_not K (read K d rest₁ p)
+    not_is f = rw (deeper, past) (read_not d rest p f)
 
-    pub not_read : Some 45 ≡ first rest → (s : ℕ) (rest₂ : List ℕ) (p₂ : Plan) (out : Outcome) → Read s rest₂ p₂ ≡ read K (d - 1) rest₁ p
-        → out ≡ add_gate K 16 (s ∷ []) rest₂ p₂ → out ≡ read K d rest p
-    not_read f s rest₂ p₂ out g o = o ∙ sym (read_not d rest p nz f ∙ rw (← past, ← g) refl)
+    pub not_fault : Some 45 ≡ first rest → (e : Refusal) → Fault e ≡ read K d rest₁ p → Fault e ≡ read K deep rest p
+    not_fault f e g = sym (not_is f ∙ ap (then_not K) (sym g))
+
+    pub not_read : Some 45 ≡ first rest → (s : ℕ) (rest₂ : List ℕ) (p₂ : Plan) (out : Outcome) → Read s rest₂ p₂ ≡ read K d rest₁ p
+        → out ≡ add_gate K 16 (s ∷ []) rest₂ p₂ → out ≡ read K deep rest p
+    not_read f s rest₂ p₂ out g o = o ∙ sym (not_is f ∙ ap (then_not K) (sym g))
 
     module _ (f : Some 40 ≡ first rest) where
-      pub left_fault : (e : Refusal) → Fault e ≡ read K (d - 1) rest₁ p → Fault e ≡ read K d rest p
-      left_fault e g = sym (read_open d rest p nz f ∙ rw (← past, ← g) refl)
+      open_is : read K deep rest p ≡ then_sign K (read K d) (read K d rest₁ p)
+      open_is = rw (deeper, past) (read_open d rest p f)
 
-      module _ (left : ℕ) (rest₂ : List ℕ) (p₂ : Plan) (g : Read left rest₂ p₂ ≡ read K (d - 1) rest₁ p) where
-        at_sign : read K d rest p ≡ then_sign K (read K (d - 1)) (Read left rest₂ p₂)
-        at_sign = read_open d rest p nz f ∙ rw (← past, ← g) refl
+      pub left_fault : (e : Refusal) → Fault e ≡ read K d rest₁ p → Fault e ≡ read K deep rest p
+      left_fault e g = sym (open_is ∙ ap (then_sign K (read K d)) (sym g))
 
-        unsigned : (r : List ℕ) → ((b : ℕ) → first r ≡ Some b → sign_code b ≡ None) → then_sign K (read K (d - 1)) (Read left r p₂) ≡ Fault BadLine
+      module _ (left : ℕ) (rest₂ : List ℕ) (p₂ : Plan) (g : Read left rest₂ p₂ ≡ read K d rest₁ p) where
+        at_sign : read K deep rest p ≡ then_sign K (read K d) (Read left rest₂ p₂)
+        at_sign = open_is ∙ ap (then_sign K (read K d)) (sym g)
+
+        unsigned : (r : List ℕ) → ((b : ℕ) → first r ≡ Some b → sign_code b ≡ None) → then_sign K (read K d) (Read left r p₂) ≡ Fault BadLine
         unsigned [] h = refl
         unsigned (b ∷ bs) h = rw (h b refl) refl
 
-        pub no_sign : (e : Refusal) → e ≡ BadLine → ((b : ℕ) → first rest₂ ≡ Some b → sign_code b ≡ None) → Fault e ≡ read K d rest p
+        pub no_sign : (e : Refusal) → e ≡ BadLine → ((b : ℕ) → first rest₂ ≡ Some b → sign_code b ≡ None) → Fault e ≡ read K deep rest p
         no_sign e is h = rw is (sym (at_sign ∙ unsigned rest₂ h))
 
-        module _ (code : ℕ) (rest₃ : List ℕ) (s : (b : ℕ) × (rest₂ ≡ b ∷ rest₃) × (sign_code b ≡ Some code)) where
-          at_right : read K d rest p ≡ then_close K code left (read K (d - 1) rest₃ p₂)
-          at_right = at_sign ∙ rw (s.1, s.2) refl
+        module _ (s : Sign) (rest₃ : List ℕ) (signed : rest₂ ≡ sign_byte s ∷ rest₃) where
+          at_right : read K deep rest p ≡ then_close K (operator_code s) left (read K d rest₃ p₂)
+          at_right = at_sign ∙ rw (signed, sign_known s) refl
 
-          pub right_fault : (e : Refusal) → Fault e ≡ read K (d - 1) rest₃ p₂ → Fault e ≡ read K d rest p
+          pub right_fault : (e : Refusal) → Fault e ≡ read K d rest₃ p₂ → Fault e ≡ read K deep rest p
           right_fault e h = sym (at_right ∙ rw (← h) refl)
 
-          module _ (right : ℕ) (rest₄ : List ℕ) (p₄ : Plan) (h : Read right rest₄ p₄ ≡ read K (d - 1) rest₃ p₂) where
-            at_close : read K d rest p ≡ then_close K code left (Read right rest₄ p₄)
+          module _ (right : ℕ) (rest₄ : List ℕ) (p₄ : Plan) (h : Read right rest₄ p₄ ≡ read K d rest₃ p₂) where
+            at_close : read K deep rest p ≡ then_close K (operator_code s) left (Read right rest₄ p₄)
             at_close = at_right ∙ rw (← h) refl
 
-            unclosed : (q : List ℕ) → (first q ≡ Some 41 → ⊥) → then_close K code left (Read right q p₄) ≡ Fault BadLine
+            unclosed : (q : List ℕ) → (first q ≡ Some 41 → ⊥) → then_close K (operator_code s) left (Read right q p₄) ≡ Fault BadLine
             unclosed [] n = refl
             unclosed (b ∷ bs) n = let n' : b ≡ 41 → ⊥ = λ e. n (rw e refl) in rw (ne_eqb b 41 n')
 
-            pub no_close : (e : Refusal) → e ≡ BadLine → (first rest₄ ≡ Some 41 → ⊥) → Fault e ≡ read K d rest p
+            pub no_close : (e : Refusal) → e ≡ BadLine → (first rest₄ ≡ Some 41 → ⊥) → Fault e ≡ read K deep rest p
             no_close e is n = rw is (sym (at_close ∙ unclosed rest₄ n))
 
-            pub join_read : (rest₅ : List ℕ) (out : Outcome) → rest₄ ≡ 41 ∷ rest₅ → out ≡ add_gate K code (left ∷ right ∷ []) rest₅ p₄ → out ≡ read K d rest p
+            pub join_read : (rest₅ : List ℕ) (out : Outcome) → rest₄ ≡ 41 ∷ rest₅ → out ≡ add_gate K (operator_code s) (left ∷ right ∷ []) rest₅ p₄ → out ≡ read K deep rest p
             join_read rest₅ out c o = o ∙ sym (at_close ∙ rw c refl)

@@ -1,5 +1,5 @@
 -- The spelling of a formula within the limits is read as that formula.
-use Rattle.std.proofs.Common.{◌≡◌, ℕ, ◌+◌, ◌-◌, ◌<◌, ◌≤◌, true, false, List, [], ◌∷◌, ◌++◌, length, take, drop, Some, Ok, decimal, sym, refl, ◌∙◌, append_assoc, arith}
+use Rattle.std.proofs.Common.{◌≡◌, ℕ, suc, ◌+◌, ◌-◌, ◌<◌, ◌≤◌, true, false, List, [], ◌∷◌, ◌++◌, length, take, drop, Some, Ok, decimal, sym, refl, ◌∙◌, append_assoc, arith}
 use Rattle.std.specs.Char.{is_ascii_digit}
 use Rattle.std.specs.Str.{all_ascii_digits}
 use Rattle.std.proofs.lemmas.List.{take_at, drop_at}
@@ -10,18 +10,12 @@ use Rattle.model.specs.Plans.{Plan, complete, signals, are_signals}
 use Rattle.texts.specs.Characters.{first}
 use Rattle.texts.specs.Numbers.{max_number, number_answer}
 use Rattle.texts.proofs.Decimals.{spelling, number_of, tested}
-use Rattle.formulas.specs.Reading.{Read, digit_count, sign_code, read_switch, read}
-use Rattle.formulas.specs.Trees.{Sign, And, Or, Then, If, Same, Differ, sign_byte, operator_code, Formula, Switch, Not, Join, spell, nesting, gate_count, Over, gates_of}
+use Rattle.formulas.specs.Reading.{Read, digit_count, read_switch, read}
+use Rattle.formulas.specs.declared.signs.Sign.{Sign}
+use Rattle.formulas.specs.declared.signs.Sign.TheVariants.{And, Or, Then, If, Same, Differ}
+use Rattle.formulas.specs.Trees.{sign_byte, operator_code, Formula, Switch, Not, Join, spell, nesting, gate_count, Over, gates_of}
 use Rattle.formulas.proofs.ReadingSteps.{read_else, not_read, join_read}
 use Rattle.formulas.proofs.FormulaGates.{grown, gates_length, own_signal, signal_test, gate_taken, code_low, code_arity}
-
-sign_known : (s : Sign) → sign_code (sign_byte s) ≡ Some (operator_code s)
-sign_known And = refl
-sign_known Or = refl
-sign_known Then = refl
-sign_known If = refl
-sign_known Same = refl
-sign_known Differ = refl
 
 sign_no_digit : (s : Sign) (bs : List ℕ) → digit_count (sign_byte s ∷ bs) ≡ 0
 sign_no_digit And bs = refl
@@ -58,16 +52,16 @@ spelt_read (Switch v) d rest p wide growing stops shallow over few =
     switch_read (decimal v ++ rest) (decimal v) rest v p (take_at (decimal v) rest _ k) (drop_at (decimal v) rest _ k) (number_of v (omega arith)) over.0 over.1
     ∙ read_else two_input d (decimal v ++ rest) p (first_is_digit (decimal v) rest a s.some 45 refl) (first_is_digit (decimal v) rest a s.some 40 refl)
 spelt_read (Not f) d rest p wide growing stops shallow over few =
-    let nz : d ≡ 0 → ⊥ = λ e. omega arith in
+    let deeper : d ≡ suc (d - 1) = omega arith in
     let n = p.switches in
     let s = own_signal n f p.gates over in
     let test = signal_test (signals (grown p f)) _ s.0 s.1 in
     let there : are_signals (signals (grown p f)) ((gates_of n f p.gates).0 ∷ []) ≡ true = rw test refl in
-    not_read two_input d (45 ∷ (spell f ++ rest)) (spell f ++ rest) p nz refl refl (gates_of n f p.gates).0 rest (grown p f) _
+    not_read two_input d (d - 1) deeper (45 ∷ (spell f ++ rest)) (spell f ++ rest) p refl refl (gates_of n f p.gates).0 rest (grown p f) _
     (spelt_read f (d - 1) rest p wide growing stops (omega arith) over (omega arith))
     (gate_taken 16 ((gates_of n f p.gates).0 ∷ []) rest (grown p f) growing (omega (arith, gates_length n f p.gates)) (omega arith) refl there)
 spelt_read (Join s f g) d rest p wide growing stops shallow over few =
-    let nz : d ≡ 0 → ⊥ = λ e. omega arith in
+    let deeper : d ≡ suc (d - 1) = omega arith in
     let n = p.switches in
     let p₂ = grown p f in
     let p₄ = grown p₂ g in
@@ -84,9 +78,9 @@ spelt_read (Join s f g) d rest p wide growing stops shallow over few =
     let there_r = signal_test (signals p₄) r own_r.0 own_r.1 in
     let there : are_signals (signals p₄) (l ∷ r ∷ []) ≡ true = rw (there_l, there_r) refl in
     rw shape
-    (join_read two_input d (40 ∷ left) left p nz refl refl l (sign_byte s ∷ right) p₂
+    (join_read two_input d (d - 1) deeper (40 ∷ left) left p refl refl l (sign_byte s ∷ right) p₂
     (spelt_read f (d - 1) (sign_byte s ∷ right) p wide growing (sign_no_digit s right) (omega arith) over.0 (omega arith))
-    (operator_code s) right (sign_byte s, refl, sign_known s) r (41 ∷ rest) p₄
+    s right refl r (41 ∷ rest) p₄
     (spelt_read g (d - 1) (41 ∷ rest) p₂ wide growing refl (omega arith) over.1 (omega arith))
     rest _ refl
     (gate_taken (operator_code s) (l ∷ r ∷ []) rest p₄ growing (omega arith) (code_low s) (code_arity s) there))

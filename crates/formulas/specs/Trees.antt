@@ -4,15 +4,9 @@ use Rattle.clauses.specs.declared.refusals.Refusal.{Refusal}
 use Rattle.clauses.specs.Limits.{max_gates, max_text, max_nesting}
 use Rattle.gates.specs.Nodes.{Node}
 use Rattle.model.specs.Plans.{Plan, node}
+use Rattle.formulas.specs.declared.signs.Sign.{Sign}
+use Rattle.formulas.specs.declared.signs.Sign.TheVariants.{And, Or, Then, If, Same, Differ}
 use Rattle.formulas.specs.Reading.{fresh}
-
-pub data Sign : Type 0 where
-  And : Sign
-  Or : Sign
-  Then : Sign
-  If : Sign
-  Same : Sign
-  Differ : Sign
 
 -- & | > < = ^
 abbrev pub sign_byte : Sign → ℕ

@@ -3,5 +3,6 @@
 
 mod parts;
 pub mod reading;
+mod signs;
 
 pub use reading::{formula, formula_of};

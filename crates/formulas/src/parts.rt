@@ -5,39 +5,22 @@ ghost use Rattle.model.specs.Plans.{Plan};
 ghost use Rattle.texts.specs.Characters.{first};
 ghost use Rattle.texts.specs.Readers.{rest_of};
 ghost use Rattle.formulas.specs.Reading.{sign_code, read_switch, outcome};
+ghost use Rattle.formulas.specs.Trees.{sign_byte};
 
+use crate::signs::Sign;
 use clauses::Refusal;
 use texts::{Reader, number};
 
-// The operator code of a sign.
-fn code_of(sign: char) -> Option<u32>
-    ensures { result ≡ sign_code sign }
-{
-    match sign {
-        '&' => Some(1),
-        '|' => Some(7),
-        '>' => Some(13),
-        '<' => Some(11),
-        '=' => Some(9),
-        '^' => Some(6),
-        _ => None,
-    }
-}
-
-// Reads a sign; answers its operator code.
-pub fn read_sign(reader: &mut Reader) -> Result<u32, Refusal>
+// Reads a sign.
+pub fn read_sign(reader: &mut Reader) -> Result<Sign, Refusal>
     ensures { MatchResult result
-        (λ code. (b : ℕ) × (rest_of reader.old ≡ b ∷ rest_of reader.new) × (sign_code b ≡ Some code))
+        (λ sign. rest_of reader.old ≡ sign_byte sign ∷ rest_of reader.new)
         (λ e. (e ≡ BadLine) × ((b : ℕ) → first (rest_of reader.old) ≡ Some b → sign_code b ≡ None)) }
 {
-    let Some(sign) = reader.peek() else {
-        return Err(Refusal::BadLine);
-    };
-    let Some(code) = code_of(sign) else {
-        return Err(Refusal::BadLine);
-    };
+    let character = reader.peek().ok_or(Refusal::BadLine)?;
+    let sign = Sign::try_from(character)?;
     reader.skip();
-    Ok(code)
+    Ok(sign)
 }
 
 // Reads a ')'.

@@ -2,42 +2,40 @@
 ghost use Rattle.std.specs.Prelude.{◌≡◌};
 ghost use Rattle.clauses.specs.Limits.{max_nesting};
 ghost use Rattle.gates.specs.TwoInput.{two_input};
-ghost use Rattle.plans.specs.PlanStates.{plan_of};
 ghost use Rattle.texts.specs.Readers.{rest_of};
 ghost use Rattle.formulas.specs.Reading.{read as read_formula, outcome, then_root, formula_answer, formula_done, formula_plan};
 ghost use Rattle.formulas.specs.Trees.{ReadsExactly};
 
 use crate::parts::{read_close, read_sign, read_switch};
 use clauses::Refusal;
-use clauses::limits::{MAX_NESTING, MAX_TEXT};
+use clauses::limits::{MAX_NESTING, MAX_SWITCHES, MAX_TEXT};
 use gates::{GateKind, TwoInput};
 use plans::Plan;
 use texts::Reader;
 
+// The operator code of 'not' among two-input gates.
+const NOT: u32 = 16;
+
 // Reads a formula that nests at most `depth` deep into gates of the plan; answers its signal.
 fn read<G: GateKind>(reader: &mut Reader, depth: u8, plan: &mut Plan<G>) -> Result<u32, Refusal>
-    ensures switches { (plan_of plan.new).switches ≡ (plan_of plan.old).switches }
-    ensures reads { outcome result (rest_of reader.new) (plan_of plan.new) ≡ read_formula G.GateKind.kind depth (rest_of reader.old) (plan_of plan.old) }
+    ensures switches { plan.new.switches ≡ plan.old.switches }
+    ensures reads { outcome result (rest_of reader.new) plan.new ≡ read_formula G.GateKind.kind depth (rest_of reader.old) plan.old }
 {
     match reader.peek() {
         Some('-') => {
-            if depth == 0 {
-                return Err(Refusal::TooDeep);
-            }
+            let depth = depth.checked_sub(1).ok_or(Refusal::TooDeep)?;
             reader.skip();
-            let inner = read::<G>(reader, depth - 1, plan)?;
-            plan.gate(16, &[inner])
+            let inner = read(reader, depth, plan)?;
+            plan.gate(NOT, &[inner])
         }
         Some('(') => {
-            if depth == 0 {
-                return Err(Refusal::TooDeep);
-            }
+            let depth = depth.checked_sub(1).ok_or(Refusal::TooDeep)?;
             reader.skip();
-            let left = read::<G>(reader, depth - 1, plan)?;
-            let code = read_sign(reader)?;
-            let right = read::<G>(reader, depth - 1, plan)?;
+            let left = read(reader, depth, plan)?;
+            let sign = read_sign(reader)?;
+            let right = read(reader, depth, plan)?;
             read_close(reader)?;
-            plan.gate(code, &[left, right])
+            plan.gate(sign.code(), &[left, right])
         }
         _ => read_switch(reader, plan.switches()),
     }
@@ -45,12 +43,12 @@ fn read<G: GateKind>(reader: &mut Reader, depth: u8, plan: &mut Plan<G>) -> Resu
 
 // Reads a whole text as one formula, whose signal becomes the root.
 fn read_whole<G: GateKind>(text: &[u8], plan: &mut Plan<G>) -> Result<(), Refusal>
-    ensures switches { (plan_of plan.new).switches ≡ (plan_of plan.old).switches }
-    ensures answer { result ≡ formula_done (then_root (read_formula G.GateKind.kind max_nesting text.now (plan_of plan.old))) }
-    ensures granted { plan_of plan.new ≡ formula_plan (then_root (read_formula G.GateKind.kind max_nesting text.now (plan_of plan.old))) (plan_of plan.new) }
+    ensures switches { plan.new.switches ≡ plan.old.switches }
+    ensures answer { result ≡ formula_done (then_root (read_formula G.GateKind.kind max_nesting text.now plan.old)) }
+    ensures granted { plan.new ≡ formula_plan (then_root (read_formula G.GateKind.kind max_nesting text.now plan.old)) plan.new }
 {
     let mut reader = Reader::new(text);
-    let signal = read::<G>(&mut reader, MAX_NESTING as u8, plan)?;
+    let signal = read(&mut reader, MAX_NESTING as u8, plan)?;
     if reader.peek().is_some() {
         return Err(Refusal::BadLine);
     }
@@ -59,27 +57,29 @@ fn read_whole<G: GateKind>(text: &[u8], plan: &mut Plan<G>) -> Result<(), Refusa
 
 // Reads a whole text as one formula; refused, the plan is as it was.
 pub fn formula_of<G: GateKind>(plan: &mut Plan<G>, text: &[u8]) -> Result<(), Refusal>
-    ensures answer { result ≡ formula_done (formula_answer G.GateKind.kind (plan_of plan.old) text.now) }
-    ensures after { plan_of plan.new ≡ formula_plan (formula_answer G.GateKind.kind (plan_of plan.old) text.now) (plan_of plan.old) }
+    ensures answer { result ≡ formula_done (formula_answer G.GateKind.kind plan.old text.now) }
+    ensures after { plan.new ≡ formula_plan (formula_answer G.GateKind.kind plan.old text.now) plan.old }
 {
-    if plan.is_complete() || plan.gates().len() != 0 {
+    if plan.is_complete() || !plan.gates().is_empty() {
         return Err(Refusal::OutOfPlace);
     }
     if text.len() > MAX_TEXT {
         return Err(Refusal::LongText);
     }
-    let read = read_whole::<G>(text, plan);
+    let read = read_whole(text, plan);
     if read.is_err() {
         plan.clear();
     }
     read
 }
 
-// The formula call, in place of gates and root.
+// The formula call of a two-input plan, in place of gates and root; of these plans it is said which texts are formulas.
 pub fn formula(plan: &mut Plan<TwoInput>, text: &[u8]) -> Result<(), Refusal>
-    ensures answer { result ≡ formula_done (formula_answer two_input (plan_of plan.old) text.now) }
-    ensures after { plan_of plan.new ≡ formula_plan (formula_answer two_input (plan_of plan.old) text.now) (plan_of plan.old) }
-    ensures exact { ReadsExactly (plan_of plan.old) text.now result (plan_of plan.new) }
+    ensures answer { result ≡ formula_done (formula_answer two_input plan.old text.now) }
+    ensures after { plan.new ≡ formula_plan (formula_answer two_input plan.old text.now) plan.old }
+    ensures exact { ReadsExactly plan.old text.now result plan.new }
 {
-    formula_of::<TwoInput>(plan, text)
+    // so few that a text can have the number of each
+    prove!(plan.switches() as usize <= MAX_SWITCHES);
+    formula_of(plan, text)
 }

@@ -85,9 +85,9 @@ module _ (K : Kind) where
     where
       got : (r : Result Plan Refusal) → r ≡ Ok q → MadePlan K r → WellMade K q × T (complete q)
       got (Ok x) h m = subst (λ (y : Plan). WellMade K y × T (complete y)) (cc) m
-      got (Err e) h m = let z : ◌≡◌ {A = ℕ} 0 1 = cc in absurd (omega arith)
+      got (Err e) h m = cc
 
       go : (s t : Bool) (r : Result Plan Refusal) → cond s (Err OutOfPlace) (cond t (Err LongText) r) ≡ Ok q → MadePlan K r → WellMade K q × T (complete q)
-      go true t r h m = let z : ◌≡◌ {A = ℕ} 0 1 = cc in absurd (omega arith)
-      go false true r h m = let z : ◌≡◌ {A = ℕ} 0 1 = cc in absurd (omega arith)
+      go true t r h m = cc
+      go false true r h m = cc
       go false false r h m = got r h m

@@ -2,7 +2,6 @@ pub mod FormulaMade
 pub mod LinesSpelt
 pub mod LinesRun
 pub mod LineCounts
-pub mod LineWithin
 pub mod LinedPlans
 pub mod LinesRelied
 pub mod Relied

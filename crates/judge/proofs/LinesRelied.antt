@@ -47,32 +47,24 @@ module _ (K : Kind) (kind : PlanKind) where
   abbrev PlanLine : Plan → Plan → Result Form Refusal → Type 0
   PlanLine p q f = GateLine p q f ⊎ (RootLine p q f ⊎ FormulaLine p q f)
 
-  never : {A : Type 0} {e : Refusal} {q : Plan} → ◌≡◌ {A = Result Plan Refusal} (Err e) (Ok q) → A
-  never h = let z : ◌≡◌ {A = ℕ} 0 1 = cc in absurd (omega arith)
-
   plan_line_was : (p q : Plan) (f : Result Form Refusal) → plan_lined K kind p f ≡ Ok q → PlanLine p q f
-  plan_line_was p q (Err e) h = never h
-  plan_line_was p q (Ok (lines.Plan k n)) h = never h
+  plan_line_was p q (Err e) h = cc
   plan_line_was p q (Ok (lines.Gate code operands)) h = go (gate_answer K p code operands) refl h
     where
       go : (r : Result ℕ Refusal) → gate_answer K p code operands ≡ r → ◌≡◌ {A = Result Plan Refusal} (elim r [ Ok s ↦ Ok (with_gate p (node code operands)) | Err e ↦ Err e ]) (Ok q) → PlanLine p q (Ok (lines.Gate code operands))
       go (Ok s) t i = inl record { code = code; operands = operands; signal = s; form = refl; granted_as = t; after = cc }
-      go (Err e) t i = never i
+      go (Err e) t i = cc
   plan_line_was p q (Ok (lines.Root s)) h = go (root_answer p s) refl h
     where
       go : (r : Result (Unit {0}) Refusal) → root_answer p s ≡ r → ◌≡◌ {A = Result Plan Refusal} (elim r [ Ok u ↦ Ok (with_root p s) | Err e ↦ Err e ]) (Ok q) → PlanLine p q (Ok (lines.Root s))
       go (Ok tt) t i = inr (inl record { root = s; form = refl; granted_as = t; after = cc })
-      go (Err e) t i = never i
+      go (Err e) t i = cc
   plan_line_was p q (Ok (lines.Formula text)) h = go kind refl h
     where
       go : (k : PlanKind) → kind ≡ k → formula_line K k p text ≡ Ok q → PlanLine p q (Ok (lines.Formula text))
       go TwoInput t i = inr (inr record { text = text; two_input_plan = t; form = refl; after = i })
-      go Wide t i = never i
-  plan_line_was p q (Ok (lines.Define z code operands)) h = never h
-  plan_line_was p q (Ok (lines.Resolve a b)) h = never h
-  plan_line_was p q (Ok (lines.Strike k)) h = never h
-  plan_line_was p q (Ok (lines.Settle k)) h = never h
-  plan_line_was p q (Ok (lines.Show digits)) h = never h
+      go Wide t i = cc
+  plan_line_was p q (Ok other) h = cc
 
   -- the plan with gates more
   abbrev pub with_gates : Plan → List Node → Plan
@@ -175,11 +167,11 @@ module _ (K : Kind) (kind : PlanKind) where
         }
 
   pub planned : (fs : List (Result Form Refusal)) (p : Plan) → WellMade K p → complete p ≡ false → (b : Book) (k : ℕ) (s : Standing) → (plan_lines K kind p b k fs).0 ≡ Stands s → Planned p b fs s
-  planned [] p made growing b k s e = let z : ◌≡◌ {A = ℕ} 0 1 = cc in absurd (omega arith)
+  planned [] p made growing b k s e = cc
   planned (f ∷ fs) p made growing b k s e = go (plan_lined K kind p f) refl e (λ q m c. planned fs q m c b (k + 1) s)
     where
       go : (r : Result Plan Refusal) → plan_lined K kind p f ≡ r → (elim r as (λ _. Verdict × Book) [ Ok q ↦ cond (complete q) (open_lines K q b (k + 1) fs) (plan_lines K kind q b (k + 1) fs) | Err x ↦ (Refused (k + 1) x, b) ]).0 ≡ Stands s → ((q : Plan) → WellMade K q → complete q ≡ false → (plan_lines K kind q b (k + 1) fs).0 ≡ Stands s → Planned q b fs s) → Planned p b (f ∷ fs) s
-      go (Err x) q h ih = let z : ◌≡◌ {A = ℕ} 0 1 = cc in absurd (omega arith)
+      go (Err x) q h ih = cc
       go (Ok q) i h ih =
           elim (plan_line_was p q f i) [
             | inl l ↦ by_a_gate p q made f fs b k s growing l h (ih q)

@@ -20,15 +20,15 @@ pub record ComesTo (K : Kind) (d : Docket) (s : Standing) : Type 0 where
 
 -- a granted line is one step of a call
 granted_step : (K : Kind) (d e : Docket) (o : Option Call) → made K d o ≡ Ok e → (c : Call) × (step K d c ≡ e)
-granted_step K d e None h = let z : ◌≡◌ {A = ℕ} 0 1 = cc in absurd (omega arith)
+granted_step K d e None h = cc
 granted_step K d e (Some c) h = (c, go (answer K d c) h)
   where
     go : (r : Result ℕ Refusal) → ◌≡◌ {A = Result Docket Refusal} (elim r [ Ok x ↦ Ok (changed K d c) | Err x ↦ Err x ]) (Ok e) → granted r (changed K d c) d ≡ e
     go (Ok x) q = cc
-    go (Err x) q = let z : ◌≡◌ {A = ℕ} 0 1 = cc in absurd (omega arith)
+    go (Err x) q = cc
 
 line_step : (K : Kind) (d e : Docket) (f : Result Form Refusal) → step_line K d f ≡ Ok e → (c : Call) × (step K d c ≡ e)
-line_step K d e (Err x) h = let z : ◌≡◌ {A = ℕ} 0 1 = cc in absurd (omega arith)
+line_step K d e (Err x) h = cc
 line_step K d e (Ok f) h = granted_step K d e (call_in d.plan.switches f) h
 
 pub steps_come_to : (K : Kind) (fs : List (Result Form Refusal)) (d : Docket) (k : ℕ) (s : Standing) → (step_lines K d k fs).0 ≡ Stands s → ComesTo K d s
@@ -40,11 +40,11 @@ steps_come_to K (f ∷ fs) d k s e = go (step_line K d f) refl e (λ x. steps_co
         let more = ih x h in
         let first = line_step K d x f q in
         record { calls = first.0 ∷ more.calls; stands = ap (λ (y : Docket). (run K y more.calls).standing) first.1 ∙ more.stands }
-    go (Err x) q h ih = let z : ◌≡◌ {A = ℕ} 0 1 = cc in absurd (omega arith)
+    go (Err x) q h ih = cc
 
 pub opens_come_to : (K : Kind) (p : Plan) (b : Book) (k : ℕ) (fs : List (Result Form Refusal)) (s : Standing) → (open_lines K p b k fs).0 ≡ Stands s → (open_answer K p b ≡ Ok tt) × ComesTo K (opened K p b) s
 opens_come_to K p b k fs s e = go (open_answer K p b) refl e
   where
     go : (r : Result (Unit {0}) Refusal) → open_answer K p b ≡ r → (elim r as (λ _. Verdict × Book) [ Ok u ↦ step_lines K (opened K p b) k fs | Err x ↦ (Refused k x, b) ]).0 ≡ Stands s → (open_answer K p b ≡ Ok tt) × ComesTo K (opened K p b) s
     go (Ok tt) q h = (q, steps_come_to K fs (opened K p b) k s h)
-    go (Err x) q h = let z : ◌≡◌ {A = ℕ} 0 1 = cc in absurd (omega arith)
+    go (Err x) q h = cc

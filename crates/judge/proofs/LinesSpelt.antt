@@ -14,7 +14,7 @@ pub record FirstLine (text line : List ℕ) (others : List (Option (List ℕ))) 
   pub left : lines_of behind ≡ others
 
 pub first_line : (text line : List ℕ) (others : List (Option (List ℕ))) → lines_of text ≡ Some line ∷ others → FirstLine text line others
-first_line [] line others e = let z : ◌≡◌ {A = ℕ} 0 1 = cc in absurd (omega arith)
+first_line [] line others e = cc
 first_line (b ∷ bs) line others e = go (eqb b 10) refl (lines_of bs) refl e (first_line bs)
   where
     longer : (l : List ℕ) (ls : List (Option (List ℕ))) → Some (b ∷ l) ∷ ls ≡ Some line ∷ others → FirstLine bs l ls → FirstLine (b ∷ bs) line others
@@ -29,8 +29,8 @@ first_line (b ∷ bs) line others e = go (eqb b 10) refl (lines_of bs) refl e (f
         let same : [] ≡ line = cc in
         let rest : ls ≡ others = cc in
         record { behind = bs; parted = rw (ten, sym same) refl; left = q ∙ rest }
-    go false h [] q f ih = let z : ◌≡◌ {A = ℕ} 0 1 = cc in absurd (omega arith)
-    go false h (None ∷ os) q f ih = let z : ◌≡◌ {A = ℕ} 0 1 = cc in absurd (omega arith)
+    go false h [] q f ih = cc
+    go false h (None ∷ os) q f ih = cc
     go false h (Some l ∷ os) q f ih = longer l os f (ih l os q)
 
 -- the first form of a text, and what stands behind its line
@@ -43,8 +43,8 @@ pub first_form : LineLaw → (text : List ℕ) (f : Form) (others : List (Result
 first_form law text f others e = go (lines_of text) refl e
   where
     go : (ls : List (Option (List ℕ))) → lines_of text ≡ ls → map form_of_line ls ≡ Ok f ∷ others → FirstForm text f others
-    go [] q h = let z : ◌≡◌ {A = ℕ} 0 1 = cc in absurd (omega arith)
-    go (None ∷ ls) q h = let z : ◌≡◌ {A = ℕ} 0 1 = cc in absurd (omega arith)
+    go [] q h = cc
+    go (None ∷ ls) q h = cc
     go (Some l ∷ ls) q h =
         let here : line_form l ≡ Ok f = cc in
         let rest : map form_of_line ls ≡ others = cc in

@@ -64,7 +64,7 @@ module _ (spelt_lines : LineLaw) (formula_law : (p : Plan) (text : List ℕ) (q 
   no_gates_before n gs e = nil_from_length gs (eqb-true (length gs) 0 e)
 
   stated_by_formula : (kind : PlanKind) (text : List ℕ) (n : ℕ) → n ≤ max_switches → (q : Plan) (fs others : List (Result Form Refusal)) → forms_of text ≡ Ok (lines.Plan kind n) ∷ fs → ByFormula (kind_named kind) kind (begun n) q fs others → States kind text q
-  stated_by_formula Wide text n small q fs others e by = let w : Wide ≡ TwoInput = by.two_input_plan in let z : ◌≡◌ {A = ℕ} 0 1 = cc in absurd (omega arith)
+  stated_by_formula Wide text n small q fs others e by = let w : Wide ≡ TwoInput = by.two_input_plan in cc
   stated_by_formula TwoInput text n small q fs others e by =
       let (is_fresh, law) = formula_law (with_gates two_input TwoInput (begun n) by.gates) by.text q small by.complete_plan in
       let none : by.gates ≡ [] = no_gates_before n by.gates is_fresh in
@@ -86,7 +86,7 @@ module _ (spelt_lines : LineLaw) (formula_law : (p : Plan) (text : List ℕ) (q 
       stated small q others (inr by) = stated_by_formula kind text n small q fs others e by
 
       go : (r : Result (Unit {0}) Refusal) → begin_answer n ≡ r → (elim r as (λ _. Verdict × Book) [ Ok u ↦ plan_lines (kind_named kind) kind (begun n) b 1 fs | Err x ↦ (Refused 1 x, b) ]).0 ≡ Stands s → About text b s
-      go (Err x) q i = let z : ◌≡◌ {A = ℕ} 0 1 = cc in absurd (omega arith)
+      go (Err x) q i = cc
       go (Ok tt) q i =
           let K = kind_named kind in
           let plans = planned K kind fs (begun n) ((plan_calls K).begins n q) refl b 1 s i in
@@ -98,22 +98,15 @@ module _ (spelt_lines : LineLaw) (formula_law : (p : Plan) (text : List ℕ) (q 
     where
       first : (f : Result Form Refusal) (fs : List (Result Form Refusal)) → forms_of text ≡ f ∷ fs → (first_line f b 1 fs).0 ≡ Stands s → About text b s
       first (Ok (lines.Plan kind n)) fs q h = about_plan text b kind n fs s q h
-      first (Err x) fs q h = let z : ◌≡◌ {A = ℕ} 0 1 = cc in absurd (omega arith)
-      first (Ok (lines.Gate code operands)) fs q h = let z : ◌≡◌ {A = ℕ} 0 1 = cc in absurd (omega arith)
-      first (Ok (lines.Root r)) fs q h = let z : ◌≡◌ {A = ℕ} 0 1 = cc in absurd (omega arith)
-      first (Ok (lines.Formula t)) fs q h = let z : ◌≡◌ {A = ℕ} 0 1 = cc in absurd (omega arith)
-      first (Ok (lines.Define y code operands)) fs q h = let z : ◌≡◌ {A = ℕ} 0 1 = cc in absurd (omega arith)
-      first (Ok (lines.Resolve x y)) fs q h = let z : ◌≡◌ {A = ℕ} 0 1 = cc in absurd (omega arith)
-      first (Ok (lines.Strike n)) fs q h = let z : ◌≡◌ {A = ℕ} 0 1 = cc in absurd (omega arith)
-      first (Ok (lines.Settle n)) fs q h = let z : ◌≡◌ {A = ℕ} 0 1 = cc in absurd (omega arith)
-      first (Ok (lines.Show digits)) fs q h = let z : ◌≡◌ {A = ℕ} 0 1 = cc in absurd (omega arith)
+      first (Err x) fs q h = cc
+      first (Ok other) fs q h = cc
 
       all : (fs : List (Result Form Refusal)) → forms_of text ≡ fs → (all_lines b 0 fs).0 ≡ Stands s → About text b s
-      all [] q h = let z : ◌≡◌ {A = ℕ} 0 1 = cc in absurd (omega arith)
+      all [] q h = cc
       all (f ∷ fs) q h = first f fs q h
 
       long : (t : Bool) → (cond {A = Verdict × Book} t (Refused 0 LongText, b) (all_lines b 0 (forms_of text))).0 ≡ Stands s → About text b s
-      long true h = let z : ◌≡◌ {A = ℕ} 0 1 = cc in absurd (omega arith)
+      long true h = cc
       long false h = all (forms_of text) refl h
 
   -- by the law of every run, for both kinds

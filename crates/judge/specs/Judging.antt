@@ -29,17 +29,14 @@ form_of_line (Some l) = line_form l
 abbrev pub forms_of : List ℕ → List (Result Form Refusal)
 forms_of text = map form_of_line (lines_of text)
 
--- the call that a step line makes on a docket of n switches
+-- the call that a step line makes on a docket of n switches; a line of a plan makes none
 abbrev pub call_in : ℕ → Form → Option Call
-call_in n (lines.Plan kind m) = None
-call_in n (lines.Gate code operands) = None
-call_in n (lines.Root s) = None
-call_in n (lines.Formula text) = None
 call_in n (lines.Define z code operands) = Some (calls.Define z code operands)
 call_in n (lines.Resolve a b) = Some (calls.Resolve a b)
 call_in n (lines.Strike k) = Some (calls.Strike k)
 call_in n (lines.Settle k) = Some (calls.Settle k)
 call_in n (lines.Show digits) = Some (calls.Show (packed_digits n digits))
+call_in n other = None
 
 -- a call made: the docket after it, or the refusal
 abbrev pub made : Kind → Docket → Option Call → Result Docket Refusal
@@ -67,17 +64,12 @@ abbrev pub formula_line : Kind → PlanKind → Plan → List ℕ → Result Pla
 formula_line K TwoInput p text = formula_answer K p text
 formula_line K Wide p text = Err OutOfPlace
 
--- a line of a plan that is not complete
+-- a line of a plan that is not complete; steps and another p line are out of place
 abbrev pub plan_line : Kind → PlanKind → Plan → Form → Result Plan Refusal
-plan_line K kind p (lines.Plan k n) = Err OutOfPlace
 plan_line K kind p (lines.Gate code operands) = gate_line K p code operands
 plan_line K kind p (lines.Root s) = root_line p s
 plan_line K kind p (lines.Formula text) = formula_line K kind p text
-plan_line K kind p (lines.Define z code operands) = Err OutOfPlace
-plan_line K kind p (lines.Resolve a b) = Err OutOfPlace
-plan_line K kind p (lines.Strike k) = Err OutOfPlace
-plan_line K kind p (lines.Settle k) = Err OutOfPlace
-plan_line K kind p (lines.Show digits) = Err OutOfPlace
+plan_line K kind p other = Err OutOfPlace
 
 abbrev pub plan_lined : Kind → PlanKind → Plan → Result Form Refusal → Result Plan Refusal
 plan_lined K kind p (Err e) = Err e
@@ -104,18 +96,11 @@ kind_named Wide = wide
 abbrev pub begin_lines : Kind → PlanKind → ℕ → Book → ℕ → List (Result Form Refusal) → Verdict × Book
 begin_lines K kind n b k fs = elim (begin_answer n) [ Ok u ↦ plan_lines K kind (begun n) b k fs | Err e ↦ (Refused k e, b) ]
 
--- the first line, which is line k, begins a plan
+-- the first line, which is line k, begins a plan; any other is out of place
 abbrev pub first_line : Result Form Refusal → Book → ℕ → List (Result Form Refusal) → Verdict × Book
 first_line (Err e) b k fs = (Refused k e, b)
 first_line (Ok (lines.Plan kind n)) b k fs = begin_lines (kind_named kind) kind n b k fs
-first_line (Ok (lines.Gate code operands)) b k fs = (Refused k OutOfPlace, b)
-first_line (Ok (lines.Root s)) b k fs = (Refused k OutOfPlace, b)
-first_line (Ok (lines.Formula text)) b k fs = (Refused k OutOfPlace, b)
-first_line (Ok (lines.Define z code operands)) b k fs = (Refused k OutOfPlace, b)
-first_line (Ok (lines.Resolve x y)) b k fs = (Refused k OutOfPlace, b)
-first_line (Ok (lines.Strike n)) b k fs = (Refused k OutOfPlace, b)
-first_line (Ok (lines.Settle n)) b k fs = (Refused k OutOfPlace, b)
-first_line (Ok (lines.Show digits)) b k fs = (Refused k OutOfPlace, b)
+first_line (Ok other) b k fs = (Refused k OutOfPlace, b)
 
 -- all lines, k having been read
 abbrev pub all_lines : Book → ℕ → List (Result Form Refusal) → Verdict × Book

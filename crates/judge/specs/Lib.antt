@@ -3,3 +3,4 @@ pub mod LineStates
 pub mod Relying
 pub mod Results
 pub mod Growing
+pub mod VerdictLines

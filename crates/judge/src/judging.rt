@@ -1,6 +1,5 @@
 // The verdict on a text.
-ghost use Rattle.std.specs.Prelude.{◌≡◌, ◌+◌, ◌≤◌, length};
-ghost use Rattle.plans.specs.PlanStates.{plan_of};
+ghost use Rattle.std.specs.Prelude.{◌≡◌};
 ghost use Rattle.judge.specs.Judging.{open_lines, begin_lines, all_lines, judged};
 ghost use Rattle.judge.specs.LineStates.{left};
 ghost use Rattle.judge.specs.Results.{turned_down, VerdictIs, Judges};
@@ -20,14 +19,14 @@ use verdicts::Verdict;
 
 // A refusal with a number is a verdict; want of memory has none, and is an error.
 fn turned_down<B: ClauseBook>(
-    line: u16,
+    lines: &NumberedLines,
     refusal: Refusal,
     book: B,
 ) -> Result<(Verdict, B), (Refusal, B)>
-    ensures { result ≡ turned_down line refusal book }
+    ensures { result ≡ turned_down lines.now.number refusal book }
 {
     match refusal.number() {
-        Some(_) => Ok((Verdict::Refused(line, refusal), book)),
+        Some(_) => Ok((lines.refused(refusal), book)),
         None => Err((Refusal::OutOfMemory, book)),
     }
 }
@@ -39,15 +38,14 @@ fn open_lines<G: GateKind, B: ClauseBook>(
     book: B,
     lines: &mut NumberedLines,
 ) -> Result<(Verdict, B), (Refusal, B)>
-    requires { lines.old.number + length (left lines.old) ≤ 32768 }
-    ensures { VerdictIs B.ClauseBook.meaning book (open_lines G.GateKind.kind (plan_of plan.now) (B.ClauseBook.meaning book) lines.old.number (left lines.old)) result }
+    ensures { VerdictIs B.ClauseBook.meaning book (open_lines G.GateKind.kind plan.now (B.ClauseBook.meaning book) lines.old.number (left lines.old)) result }
 {
     match Docket::<G, B>::open(heap, plan, book) {
         Ok(mut docket) => {
             let verdict = step_lines(&mut docket, lines);
             Ok((verdict, docket.close()))
         }
-        Err((refusal, book)) => turned_down(lines.number(), refusal, book),
+        Err((refusal, book)) => turned_down(lines, refusal, book),
     }
 }
 
@@ -59,16 +57,15 @@ fn begin_lines<G: GateKind, B: ClauseBook>(
     book: B,
     lines: &mut NumberedLines,
 ) -> Result<(Verdict, B), (Refusal, B)>
-    requires { lines.old.number + length (left lines.old) ≤ 32768 }
     ensures { VerdictIs B.ClauseBook.meaning book (begin_lines G.GateKind.kind kind switches (B.ClauseBook.meaning book) lines.old.number (left lines.old)) result }
 {
     let mut plan = match Plan::<G>::begin(heap, switches) {
         Ok(plan) => plan,
-        Err(refusal) => return turned_down(lines.number(), refusal, book),
+        Err(refusal) => return turned_down(lines, refusal, book),
     };
     match plan_lines::<G>(&mut plan, kind, lines) {
         Ok(()) => open_lines(heap, &plan, book, lines),
-        Err(refusal) => Ok((Verdict::Refused(lines.number(), refusal), book)),
+        Err(verdict) => Ok((verdict, book)),
     }
 }
 
@@ -78,7 +75,6 @@ fn all_lines<B: ClauseBook>(
     book: B,
     lines: &mut NumberedLines,
 ) -> Result<(Verdict, B), (Refusal, B)>
-    requires { lines.old.number + length (left lines.old) ≤ 32768 }
     ensures { VerdictIs B.ClauseBook.meaning book (all_lines (B.ClauseBook.meaning book) lines.old.number (left lines.old)) result }
 {
     match lines.take() {
@@ -88,8 +84,9 @@ fn all_lines<B: ClauseBook>(
         Some(Ok(Line::Plan(PlanKind::Wide, switches))) => {
             begin_lines::<Wide, B>(heap, PlanKind::Wide, switches, book, lines)
         }
-        Some(Err(refusal)) => Ok((Verdict::Refused(lines.number(), refusal), book)),
-        _ => Ok((Verdict::Refused(lines.number(), Refusal::OutOfPlace), book)),
+        Some(Err(refusal)) => Ok((lines.refused(refusal), book)),
+        Some(Ok(_)) => Ok((lines.refused(Refusal::OutOfPlace), book)),
+        None => Ok((lines.unfinished(), book)),
     }
 }
 

@@ -1,9 +1,7 @@
 // Lines of a plan that is not complete.
-ghost use Rattle.std.specs.Prelude.{◌≡◌, ◌+◌, ◌≤◌, length};
-ghost use Rattle.plans.specs.PlanStates.{plan_of};
+ghost use Rattle.std.specs.Prelude.{◌≡◌};
 ghost use Rattle.texts.specs.LineStates.{formed};
 ghost use Rattle.judge.specs.Judging.{plan_lined, formula_line};
-ghost use Rattle.judge.specs.LineStates.{left};
 ghost use Rattle.judge.specs.Results.{becomes, Keeps};
 ghost use Rattle.judge.specs.Growing.{Grows};
 
@@ -13,11 +11,12 @@ use formulas::formula_of;
 use gates::GateKind;
 use plans::Plan;
 use texts::{Line, PlanKind};
+use verdicts::Verdict;
 
 // Only a two-input plan takes a formula.
 fn formula_line<G: GateKind>(plan: &mut Plan<G>, kind: PlanKind, text: &[u8]) -> Result<(), Refusal>
-    ensures becomes { becomes result (plan_of plan.new) ≡ formula_line G.GateKind.kind kind (plan_of plan.old) text.now }
-    ensures keeps { Keeps result (plan_of plan.old) (plan_of plan.new) }
+    ensures becomes { becomes result plan.new ≡ formula_line G.GateKind.kind kind plan.old text.now }
+    ensures keeps { Keeps result plan.old plan.new }
 {
     match kind {
         PlanKind::TwoInput => formula_of::<G>(plan, text),
@@ -31,13 +30,10 @@ fn plan_line<G: GateKind>(
     kind: PlanKind,
     line: Result<Line, Refusal>,
 ) -> Result<(), Refusal>
-    ensures { becomes result (plan_of plan.new) ≡ plan_lined G.GateKind.kind kind (plan_of plan.old) (formed line.entry) }
+    ensures { becomes result plan.new ≡ plan_lined G.GateKind.kind kind plan.old (formed line.entry) }
 {
     match line? {
-        Line::Gate(code, operands) => {
-            plan.gate(code, operands.as_slice())?;
-            Ok(())
-        }
+        Line::Gate(code, operands) => plan.gate(code, operands.as_slice()).map(|_| ()),
         Line::Root(signal) => plan.root(signal),
         Line::Formula(text) => formula_line::<G>(plan, kind, text),
         _ => Err(Refusal::OutOfPlace),
@@ -49,15 +45,16 @@ pub fn plan_lines<G: GateKind>(
     plan: &mut Plan<G>,
     kind: PlanKind,
     lines: &mut NumberedLines,
-) -> Result<(), Refusal>
-    requires { lines.old.number + length (left lines.old) ≤ 32768 }
-    ensures { Grows G.GateKind.kind kind result (plan_of plan.old) (plan_of plan.new) lines.old lines.new }
+) -> Result<(), Verdict>
+    ensures { Grows G.GateKind.kind kind result plan.old plan.new lines.old lines.new }
 {
     while !plan.is_complete() {
         let Some(line) = lines.take() else {
-            return Err(Refusal::OutOfPlace);
+            return Err(lines.unfinished());
         };
-        plan_line::<G>(plan, kind, line)?;
+        if let Err(refusal) = plan_line::<G>(plan, kind, line) {
+            return Err(lines.refused(refusal));
+        }
     }
     Ok(())
 }

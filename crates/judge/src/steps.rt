@@ -1,5 +1,5 @@
 // Lines on an open docket.
-ghost use Rattle.std.specs.Prelude.{◌≡◌, ◌+◌, ◌≤◌, length};
+ghost use Rattle.std.specs.Prelude.{◌≡◌};
 ghost use Rattle.books.specs.Promise.{granted};
 ghost use Rattle.model.specs.Calls.{Show, answer, changed};
 ghost use Rattle.referee.specs.DocketStates.{state_of};
@@ -26,9 +26,8 @@ fn show_digits<G: GateKind, B: ClauseBook>(
     ensures answer { result ≡ answer G.GateKind.kind (state_of B.ClauseBook.meaning docket.old) (Show (packed_digits (state_of B.ClauseBook.meaning docket.old).plan.switches digits.now)) }
     ensures after { state_of B.ClauseBook.meaning docket.new ≡ granted result (changed G.GateKind.kind (state_of B.ClauseBook.meaning docket.old) (Show (packed_digits (state_of B.ClauseBook.meaning docket.old).plan.switches digits.now))) (state_of B.ClauseBook.meaning docket.old) }
 {
-    let mut setting = [0; 32];
-    let count = pack(docket.plan().switches(), digits, &mut setting);
-    docket.show(&setting[0..count])
+    let setting = pack(docket.plan().switches(), digits);
+    docket.show(setting.as_slice())
 }
 
 // Makes the call of a line, if it has the form of one.
@@ -40,23 +39,14 @@ fn step_line<G: GateKind, B: ClauseBook>(
     ensures keeps { Keeps result (state_of B.ClauseBook.meaning docket.old) (state_of B.ClauseBook.meaning docket.new) }
 {
     match line? {
-        Line::Define(signal, code, operands) => {
-            docket.define(signal, code, operands.as_slice())?;
-            Ok(())
-        }
-        Line::Resolve(left, right) => {
-            docket.resolve(left, right)?;
-            Ok(())
-        }
+        Line::Define(signal, code, operands) => docket
+            .define(signal, code, operands.as_slice())
+            .map(|_| ()),
+        Line::Resolve(left, right) => docket.resolve(left, right).map(|_| ()),
         Line::Strike(number) => docket.strike(number),
         Line::Settle(number) => docket.settle(number),
-        Line::Show(digits) => {
-            show_digits(docket, digits)?;
-            Ok(())
-        }
-        Line::Plan(_, _) | Line::Gate(_, _) | Line::Root(_) | Line::Formula(_) => {
-            Err(Refusal::OutOfPlace)
-        }
+        Line::Show(digits) => show_digits(docket, digits).map(|_| ()),
+        _ => Err(Refusal::OutOfPlace),
     }
 }
 
@@ -65,12 +55,11 @@ pub fn step_lines<G: GateKind, B: ClauseBook>(
     docket: &mut Docket<G, B>,
     lines: &mut NumberedLines,
 ) -> Verdict
-    requires { lines.old.number + length (left lines.old) ≤ 32768 }
     ensures { (result, B.ClauseBook.meaning docket.new.book) ≡ step_lines G.GateKind.kind (state_of B.ClauseBook.meaning docket.old) lines.old.number (left lines.old) }
 {
     while let Some(line) = lines.take() {
         if let Err(refusal) = step_line(docket, line) {
-            return Verdict::Refused(lines.number(), refusal);
+            return lines.refused(refusal);
         }
     }
     Verdict::Stands(docket.standing())

@@ -1,6 +1,7 @@
 // Texts about formulas.
 
-const TEXTS: [(&str, &[u8]); 60] = [
+// Names and texts.
+pub static TEXTS: [(&str, &[u8]); 60] = [
     ("a switch", b"p t 2\nf 2\nv 01\n"),
     ("not", b"p t 1\nf -1\nv 0\n"),
     ("not of one that is on", b"p t 1\nf -1\nv 1\n"),
@@ -65,8 +66,3 @@ const TEXTS: [(&str, &[u8]); 60] = [
     ("no opening before no switch", b"p t 2\nf &3\n"),
     ("no closing before no switch", b"p t 2\nf ((1&2|3)\n"),
 ];
-
-// Names and texts.
-pub fn texts() -> &'static [(&'static str, &'static [u8])] {
-    &TEXTS
-}

@@ -1,7 +1,8 @@
 // Texts that fill the book with numbers, or use all signals.
 use crate::parts::Part;
 
-const TEXTS: [(&str, &[Part]); 20] = [
+// Names and the parts of texts.
+pub static TEXTS: [(&str, &[Part]); 20] = [
     (
         "a plan that fits the book",
         &[
@@ -177,8 +178,3 @@ const TEXTS: [(&str, &[Part]); 20] = [
         ],
     ),
 ];
-
-// Names and the parts of texts.
-pub fn texts() -> &'static [(&'static str, &'static [Part])] {
-    &TEXTS
-}

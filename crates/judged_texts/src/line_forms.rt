@@ -1,6 +1,7 @@
 // Texts about the form of lines.
 
-const TEXTS: [(&str, &[u8]); 67] = [
+// Names and texts.
+pub static TEXTS: [(&str, &[u8]); 67] = [
     ("nothing", b""),
     ("an empty line", b"\n"),
     ("an empty line behind the plan", b"p t 1\nr 1\n\n"),
@@ -72,8 +73,3 @@ const TEXTS: [(&str, &[u8]); 67] = [
     ("v with a letter", b"p t 2\nr 1\nv 1x\n"),
     ("v with a blank between", b"p t 2\nr 1\nv 1 0\n"),
 ];
-
-// Names and texts.
-pub fn texts() -> &'static [(&'static str, &'static [u8])] {
-    &TEXTS
-}

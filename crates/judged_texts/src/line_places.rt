@@ -1,6 +1,7 @@
 // Texts about the place of lines.
 
-const TEXTS: [(&str, &[u8]); 43] = [
+// Names and texts.
+pub static TEXTS: [(&str, &[u8]); 43] = [
     ("g first", b"g 16 1\n"),
     ("r first", b"r 1\n"),
     ("f first", b"f 1\n"),
@@ -45,8 +46,3 @@ const TEXTS: [(&str, &[u8]); 43] = [
     ("the first refused line counts", b"p t 1\nr 2\nzzz\nr 1\n"),
     ("a line not ended behind a refused one", b"p t 1\nr 2\nr"),
 ];
-
-// Names and texts.
-pub fn texts() -> &'static [(&'static str, &'static [u8])] {
-    &TEXTS
-}

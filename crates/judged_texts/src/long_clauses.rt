@@ -15,7 +15,8 @@ const TO_64_LITERALS: &[u8] =
 // The same without the root, up to a clause of 58 literals, which is clause 89.
 const TO_58_LITERALS: &[u8] = b"u 81 9\nu 83 18\nu 84 27\nu 85 36\nu 86 45\nu 87 54\nu 88 63\n";
 
-const TEXTS: [(&str, &[Part]); 10] = [
+// Names and the parts of texts.
+pub static TEXTS: [(&str, &[Part]); 10] = [
     (
         "a clause of 64 literals",
         &[Part::Once(TREE), Part::Once(TO_64_LITERALS)],
@@ -99,8 +100,3 @@ const TEXTS: [(&str, &[Part]); 10] = [
         ],
     ),
 ];
-
-// Names and the parts of texts.
-pub fn texts() -> &'static [(&'static str, &'static [Part])] {
-    &TEXTS
-}

@@ -1,7 +1,8 @@
 // Texts at the limits of bytes, switches and gates.
 use crate::parts::Part;
 
-const TEXTS: [(&str, &[Part]); 14] = [
+// Names and the parts of texts.
+pub static TEXTS: [(&str, &[Part]); 14] = [
     (
         "32768 bytes",
         &[
@@ -86,8 +87,3 @@ const TEXTS: [(&str, &[Part]); 14] = [
         ],
     ),
 ];
-
-// Names and the parts of texts.
-pub fn texts() -> &'static [(&'static str, &'static [Part])] {
-    &TEXTS
-}

@@ -1,7 +1,8 @@
 // Formulas that nest deep or have many gates.
 use crate::parts::Part;
 
-const TEXTS: [(&str, &[Part]); 19] = [
+// Names and the parts of texts.
+pub static TEXTS: [(&str, &[Part]); 19] = [
     (
         "32 minus signs",
         &[
@@ -171,8 +172,3 @@ const TEXTS: [(&str, &[Part]); 19] = [
         ],
     ),
 ];
-
-// Names and the parts of texts.
-pub fn texts() -> &'static [(&'static str, &'static [Part])] {
-    &TEXTS
-}

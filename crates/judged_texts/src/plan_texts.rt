@@ -1,6 +1,7 @@
 // Texts about switches, gates and roots.
 
-const TEXTS: [(&str, &[u8]); 43] = [
+// Names and texts.
+pub static TEXTS: [(&str, &[u8]); 43] = [
     ("no switches", b"p t 0\n"),
     ("no switches in a wide plan", b"p w 0\n"),
     ("257 switches", b"p t 257\n"),
@@ -57,8 +58,3 @@ const TEXTS: [(&str, &[u8]); 43] = [
     ),
     ("wide not", b"p w 1\ng 16 1\nr 2\nv 0\n"),
 ];
-
-// Names and texts.
-pub fn texts() -> &'static [(&'static str, &'static [u8])] {
-    &TEXTS
-}

@@ -1,6 +1,7 @@
 // Texts about steps on an open docket.
 
-const TEXTS: [(&str, &[u8]); 49] = [
+// Names and texts.
+pub static TEXTS: [(&str, &[u8]); 49] = [
     ("a clause with itself", b"p t 2\nf ((1>2)&(1&-2))\nu 1 1\n"),
     (
         "define the next signal",
@@ -126,8 +127,3 @@ const TEXTS: [(&str, &[u8]); 49] = [
         b"p t 2\nf (1>2)\nd 4 0 1 1\nv 01\n",
     ),
 ];
-
-// Names and texts.
-pub fn texts() -> &'static [(&'static str, &'static [u8])] {
-    &TEXTS
-}

@@ -1,6 +1,7 @@
 // Texts about verdicts, and steps behind them.
 
-const TEXTS: [(&str, &[u8]); 28] = [
+// Names and texts.
+pub static TEXTS: [(&str, &[u8]); 28] = [
     ("open by a formula", b"p t 2\nf ((1>2)&(1&-2))\n"),
     ("open by a root", b"p w 1\nr 1\n"),
     (
@@ -81,8 +82,3 @@ const TEXTS: [(&str, &[u8]); 28] = [
     ),
     ("define when closed", b"p t 2\nf (1>2)\nv 11\nd 4 1 1 2\n"),
 ];
-
-// Names and texts.
-pub fn texts() -> &'static [(&'static str, &'static [u8])] {
-    &TEXTS
-}

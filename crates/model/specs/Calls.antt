@@ -1,7 +1,7 @@
 -- The calls on a docket: what each answers, in the order of its refusals, and what a granted one changes.
-use Rattle.std.specs.Prelude.{ℕ, ◌+◌, cond, not, List, [], ◌∷◌, ◌++◌, length, Some, None, Ok, Err, Option, Result, ◌==◌, nat_le}
+use Rattle.std.specs.Prelude.{ℕ, ◌+◌, cond, not, List, [], ◌∷◌, ◌++◌, Some, None, Ok, Err, Option, Result, ◌==◌, nat_le}
 use Rattle.clauses.specs.declared.refusals.Refusal.{Refusal}
-use Rattle.clauses.specs.declared.refusals.Refusal.TheVariants.{Operator, OperandCount, NoSignal, NotNew, SignalsSpent, NoClause, BookFull, NotEmpty, Setting, PlanFalse, Closed}
+use Rattle.clauses.specs.declared.refusals.Refusal.TheVariants.{NotNew, SignalsSpent, NoClause, BookFull, NotEmpty, Setting, PlanFalse, Closed}
 use Rattle.clauses.specs.Limits.{max_signals}
 use Rattle.clauses.specs.Joining.{clashes, merged, only}
 use Rattle.gates.specs.Kinds.{Kind}
@@ -13,7 +13,7 @@ use Rattle.model.specs.declared.standing.Standing.{Standing}
 use Rattle.model.specs.declared.standing.Standing.TheVariants.{CannotRun, Runs}
 use Rattle.model.specs.Standings.{closed}
 use Rattle.model.specs.Refusing.{Reason, if, unless}
-use Rattle.model.specs.Plans.{Plan, node, node_reasons, are_signals, true_under}
+use Rattle.model.specs.Plans.{Plan, node, node_reasons, true_under}
 use Rattle.model.specs.Settings.{setting_of, well_packed, count_on}
 use Rattle.model.specs.Dockets.{Docket, in_use, has_room, all_written}
 

@@ -1,5 +1,6 @@
 -- Run plans: switches, gates over earlier signals, and a root once the plan is complete.
 use Rattle.std.specs.Prelude.{◌≡◌, ℕ, ◌+◌, ◌≤◌, Bool, true, false, not, ◌&&◌, List, [], ◌∷◌, ◌++◌, length, Some, None, Option, Result, ◌==◌, nat_le}
+use Rattle.std.specs.List.{list_all}
 use Rattle.clauses.specs.declared.refusals.Refusal.{Refusal}
 use Rattle.clauses.specs.declared.refusals.Refusal.TheVariants.{OutOfPlace, Size, Operator, OperandCount, NoSignal}
 use Rattle.clauses.specs.Limits.{max_switches, max_gates}
@@ -30,9 +31,9 @@ complete p = elim p.root [ Some r ↦ true | None ↦ false ]
 abbrev pub is_signal : ℕ → ℕ → Bool
 is_signal n s = nat_le 1 s && nat_le s n
 
+-- all of a list are
 abbrev pub are_signals : ℕ → List ℕ → Bool
-are_signals n [] = true
-are_signals n (s ∷ ss) = is_signal n s && are_signals n ss
+are_signals n ss = list_all (is_signal n) ss
 
 -- begin a plan of n switches
 abbrev pub begin_answer : ℕ → Result (Unit {0}) Refusal

@@ -18,7 +18,7 @@ module _ (K : Kind) (z : ℕ) (node : Node) where
     next_is = ap (λ ps. filter (λ c. not (both_ways c)) (map (instance z node.operands) ps)) (drop_more (node_patterns K node) i [] h)
 
     -- an instance that is kept is the next clause
-    pub next_kept : (n : ℕ) → Some n ≡ kept_length (instance_of K z node i) → (n ≡ length (instance_of K z node i)) × (clauses_left i ≡ instance_of K z node i ∷ clauses_left (i + 1))
+    next_kept : (n : ℕ) → Some n ≡ kept_length (instance_of K z node i) → (n ≡ length (instance_of K z node i)) × (clauses_left i ≡ instance_of K z node i ∷ clauses_left (i + 1))
     next_kept n e = go (instance_of K z node i) (both_ways (instance_of K z node i)) e next_is
       where
         go : (c : List ℕ) (b : Bool) → Some n ≡ cond b None (Some (length c)) → clauses_left i ≡ cond (not b) (c ∷ clauses_left (i + 1)) (clauses_left (i + 1)) → (n ≡ length c) × (clauses_left i ≡ c ∷ clauses_left (i + 1))
@@ -45,14 +45,18 @@ module _ (K : Kind) (z : ℕ) (node : Node) where
   pub none_left : (i : ℕ) → length (node_patterns K node) ≤ i → clauses_left i ≡ []
   none_left i h = ap (λ ps. filter (λ c. not (both_ways c)) (map (instance z node.operands) ps)) (drop_all i (node_patterns K node) h)
 
-module _ (K : Kind) (nodes : List NodeRecord) where
-  -- the clauses of the nodes from the place i on, which are the signals behind the first n
-  abbrev pub nodes_left : ℕ → ℕ → List (List ℕ)
-  nodes_left n i = nodes_clauses K n (map node_of (drop i nodes))
+-- the nodes are the signals behind the first n
+module _ (K : Kind) (n : ℕ) (nodes : List NodeRecord) where
+  -- the clauses of the nodes from the place i on
+  abbrev pub nodes_left : ℕ → List (List ℕ)
+  nodes_left i = nodes_clauses K (n + i) (map node_of (drop i nodes))
 
   -- the record x, read at the place i
-  pub node_next : (n i : ℕ) (x : NodeRecord) → i < length nodes → x ≡ get_or nodes i x → nodes_left n i ≡ clauses_of K (n + 1) (node_of x) ++ nodes_left (n + 1) (i + 1)
-  node_next n i x h e = ap (λ rs. nodes_clauses K n (map node_of rs)) (drop_more nodes i x h ∙ ap (λ y. y ∷ drop (i + 1) nodes) (sym e))
+  pub node_next : (i : ℕ) (x : NodeRecord) → i < length nodes → x ≡ get_or nodes i x → nodes_left i ≡ clauses_of K (n + i + 1) (node_of x) ++ nodes_left (i + 1)
+  node_next i x h e =
+      let far : n + i + 1 ≡ n + (i + 1) = omega arith in
+      ap (λ rs. nodes_clauses K (n + i) (map node_of rs)) (drop_more nodes i x h ∙ ap (λ y. y ∷ drop (i + 1) nodes) (sym e))
+      ∙ ap (λ m. clauses_of K (n + i + 1) (node_of x) ++ nodes_clauses K m (map node_of (drop (i + 1) nodes))) far
 
-  pub no_node_left : (n i : ℕ) → length nodes ≤ i → nodes_left n i ≡ []
-  no_node_left n i h = ap (λ rs. nodes_clauses K n (map node_of rs)) (drop_all i nodes h)
+  pub no_node_left : (i : ℕ) → length nodes ≤ i → nodes_left i ≡ []
+  no_node_left i h = ap (λ rs. nodes_clauses K (n + i) (map node_of rs)) (drop_all i nodes h)

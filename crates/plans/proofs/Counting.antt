@@ -1,48 +1,23 @@
--- A loop that counts clauses and their literals: what it has counted and what is left are all of them.
-use Rattle.std.proofs.Common.{◌≡◌, ℕ, ◌+◌, ◌<◌, List, [], ◌∷◌, length, get_or, ap, ap₂, arith}
-use Rattle.std.proofs.lemmas.List.{length-append}
-use Rattle.gates.specs.declared.records.NodeRecord.{NodeRecord}
-use Rattle.gates.specs.Kinds.{Kind}
-use Rattle.gates.specs.Nodes.{node_of}
-use Rattle.gates.specs.GateClauses.{clauses_of}
+-- Clauses put into a demand are counted.
+use Rattle.std.proofs.Common.{◌≡◌, ℕ, ◌+◌, ◌^◌, ◌<◌, List, [], ◌∷◌, length, sym, ◌∙◌, ap₂, arith}
+use Rattle.std.specs.List.{FoldsTo}
 use Rattle.model.specs.Dockets.{literal_count}
 use Rattle.plans.specs.declared.demands.Demand.{Demand}
-use Rattle.plans.specs.Demands.{demand_of}
-use Rattle.plans.proofs.ClausesLeft.{nodes_left, node_next}
-use Rattle.plans.proofs.Counts.{literal_count-append}
+use Rattle.plans.specs.Demands.{with_clause}
+use Rattle.plans.specs.Sinks.{CanPutAll}
 
--- of all clauses these are left, and d is what the others need
-pub record Counted (all left : List (List ℕ)) (d : Demand) : Type 0 where
-  pub numbers : d.numbers + length left ≡ length all
-  pub cells : d.cells + literal_count left ≡ literal_count all
+abbrev can : Demand → List ℕ → Type 0
+can d c = ((with_clause d c).numbers < 2 ^ 32) × ((with_clause d c).cells < 2 ^ 32)
 
-module _ {all left : List (List ℕ)} {d : Demand} (t : Counted all left d) where
-  pub counted_all : left ≡ [] → d ≡ demand_of all
-  counted_all e =
-      let count = ap length e in
-      let literals = ap literal_count e in
-      ap₂ (λ (n m : ℕ). record { numbers = n; cells = m }) (omega arith) (omega arith)
+abbrev gives : Demand → List ℕ → Demand → Type 0
+gives d c e = e ≡ with_clause d c
 
-  pub counted_same : (rest : List (List ℕ)) → left ≡ rest → (new : Demand) → new ≡ d → Counted all rest new
-  counted_same rest e new f = rw f (rw e at t)
+pub can_count : (cs : List (List ℕ)) (d : Demand) → d.numbers + length cs < 2 ^ 32 → d.cells + literal_count cs < 2 ^ 32 → CanPutAll can gives d cs
+can_count [] d h k = tt
+can_count (c ∷ cs) d h k = ((omega arith, omega arith), λ t g. rw g (can_count cs (with_clause d c) (omega arith) (omega arith)))
 
-  -- a clause more
-  pub counted_one : (c : List ℕ) (rest : List (List ℕ)) → left ≡ c ∷ rest → (n : ℕ) → n ≡ length c → (new : Demand) → new ≡ record { numbers = d.numbers + 1; cells = d.cells + n } → Counted all rest new
-  counted_one c rest e n f new is =
-      let count = ap length e in
-      let literals = ap literal_count e in
-      let numbers_are = ap (λ (x : Demand). x.numbers) is in
-      let cells_are = ap (λ (x : Demand). x.cells) is in
-      record { numbers = omega arith; cells = omega arith }
-
--- the clauses of a node more
-pub counted_node : {all : List (List ℕ)} {d : Demand} (K : Kind) (nodes : List NodeRecord) (n i : ℕ) (x : NodeRecord) → i < length nodes → x ≡ get_or nodes i x → Counted all (nodes_left K nodes n i) d → (more : Demand) → more ≡ demand_of (clauses_of K (n + 1) (node_of x)) → Counted all (nodes_left K nodes (n + 1) (i + 1)) (record { numbers = d.numbers + more.numbers; cells = d.cells + more.cells })
-counted_node K nodes n i x h e t more is =
-    let cs = clauses_of K (n + 1) (node_of x) in
-    let rest = nodes_left K nodes (n + 1) (i + 1) in
-    let next = node_next K nodes n i x h e in
-    let count = ap length next in
-    let literals = ap literal_count next in
-    let numbers_are = ap (λ (y : Demand). y.numbers) is in
-    let cells_are = ap (λ (y : Demand). y.cells) is in
-    record { numbers = omega (arith, length-append cs rest); cells = omega (arith, literal_count-append cs rest) }
+pub counted : (cs : List (List ℕ)) (d e : Demand) → FoldsTo gives d cs e → e ≡ record { numbers = d.numbers + length cs; cells = d.cells + literal_count cs }
+counted [] d e h = sym h ∙ ap₂ (λ (n m : ℕ). record { numbers = n; cells = m }) (omega arith) (omega arith)
+counted (c ∷ cs) d e f =
+    let ih : e ≡ record { numbers = (with_clause d c).numbers + length cs; cells = (with_clause d c).cells + literal_count cs } = rw f.1 at (counted cs f.0 e f.2) in
+    ih ∙ ap₂ (λ (n m : ℕ). record { numbers = n; cells = m }) (omega arith) (omega arith)

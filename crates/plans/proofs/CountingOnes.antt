@@ -1,11 +1,12 @@
 -- The ones in the bytes of a setting are its switches that are on.
-use Rattle.std.proofs.Common.{◌≡◌, ℕ, zero, suc, ◌+◌, ◌-◌, ◌*◌, ◌/◌, ◌%◌, ◌^◌, ◌<◌, ◌≤◌, Bool, true, false, T, eqb, List, [], ◌∷◌, ◌++◌, map, length, get_or, sym, refl, ap, ◌∙◌, ap₂, div-one, arith}
+use Rattle.std.proofs.Common.{◌≡◌, ℕ, zero, suc, ◌+◌, ◌-◌, ◌*◌, ◌/◌, ◌%◌, ◌^◌, ◌<◌, ◌≤◌, Bool, true, false, T, eqb, List, [], ◌∷◌, ◌++◌, map, length, get_or, take, sum_by, sym, refl, ap, ◌∙◌, ap₂, div-one, arith, take_all}
 use native.Mathlib.Nat.{zero-div}
 use lib.Count.{ones, ones_step, ones-le}
 use Rattle.std.specs.List.{range_with_len}
 use Rattle.std.proofs.lemmas.Nat.{shr-shr, shr_below}
 use Rattle.std.proofs.lemmas.List.FromFn.{length-map-range_with_len, get_or-map-range_with_len, map-range_with_len_more, fill_by_all}
 use Rattle.std.proofs.lemmas.Bool.{and_parts, eqb-true}
+use Rattle.std.proofs.lemmas.List.Sums.{sum_by_more}
 use Rattle.model.specs.Settings.{bit_at, setting_of, spare_bits, well_packed, count_on}
 
 -- how many of the first n places have a bit that is on
@@ -73,7 +74,7 @@ byte_bits bytes i j h =
     let r : (8 * i + j) % 8 ≡ j = omega arith in
     ap₂ (λ x y. digit_at (get_or bytes x 0) y) q r
 
-pub ones_more : (bytes : List ℕ) (i : ℕ) → get_or bytes i 0 < 256 → count_on (setting_of (8 * (i + 1)) bytes) ≡ count_on (setting_of (8 * i) bytes) + ones (get_or bytes i 0)
+ones_more : (bytes : List ℕ) (i : ℕ) → get_or bytes i 0 < 256 → count_on (setting_of (8 * (i + 1)) bytes) ≡ count_on (setting_of (8 * i) bytes) + ones (get_or bytes i 0)
 ones_more bytes i small =
     let f = bit_at bytes in
     let b = get_or bytes i 0 in
@@ -87,7 +88,7 @@ is_true : (b : Bool) → T b → b ≡ true
 is_true true t = refl
 is_true false t = absurd t
 
-pub enough_bytes : (n : ℕ) (bytes : List ℕ) → T (well_packed n bytes) → length bytes ≡ (n + 7) / 8
+enough_bytes : (n : ℕ) (bytes : List ℕ) → T (well_packed n bytes) → length bytes ≡ (n + 7) / 8
 enough_bytes n bytes packed = eqb-true _ _ (and_parts _ _ (is_true _ packed)).0
 
 no_spare : (n : ℕ) (bytes : List ℕ) → T (well_packed n bytes) → spare_bits n bytes ≡ 0
@@ -108,10 +109,25 @@ spare_off n bytes some packed j h =
     ap (λ x. digit_at (get_or bytes x 0) ((n + j) % 8)) q
     ∙ ap (λ x. eqb (x % 2) 1) (none_above (get_or bytes ((n - 1) / 8) 0) ((n - 1) % 8 + 1) ((n + j) % 8) above (no_spare n bytes packed))
 
-pub ones_all : (n : ℕ) (bytes : List ℕ) → 1 ≤ n → T (well_packed n bytes) → count_on (setting_of (8 * length bytes) bytes) ≡ count_on (setting_of n bytes)
+ones_all : (n : ℕ) (bytes : List ℕ) → 1 ≤ n → T (well_packed n bytes) → count_on (setting_of (8 * length bytes) bytes) ≡ count_on (setting_of n bytes)
 ones_all n bytes some packed =
     let f = bit_at bytes in
     let spare = 8 * length bytes - n in
     let full = enough_bytes n bytes packed in
     let room : 8 * length bytes ≡ n + spare = omega arith in
     omega (arith, ap (tally f) room, tally_split f n spare, tally_same (λ j. f (n + j)) (λ _. false) spare (spare_off n bytes some packed), tally_off 0 spare)
+
+-- the ones of the first bytes
+ones_front : (bytes : List ℕ) → ((k : ℕ) → get_or bytes k 0 < 256) → (i : ℕ) → i ≤ length bytes → sum_by ones (take i bytes) ≡ count_on (setting_of (8 * i) bytes)
+ones_front bytes small zero h = refl
+ones_front bytes small (suc i) h =
+    let room : suc i ≡ i + 1 = omega arith in
+    let more = sum_by_more ones bytes i 0 (omega arith) in
+    let ih = ones_front bytes small i (omega arith) in
+    let next = ones_more bytes i (small i) in
+    rw room (omega arith)
+
+-- the ones of all bytes
+pub ones_sum : (n : ℕ) (bytes : List ℕ) → 1 ≤ n → T (well_packed n bytes) → ((k : ℕ) → get_or bytes k 0 < 256) → sum_by ones bytes ≡ count_on (setting_of n bytes)
+ones_sum n bytes some packed small =
+    ap (sum_by ones) (sym (take_all (length bytes) bytes (omega arith))) ∙ ones_front bytes small (length bytes) (omega arith) ∙ ones_all n bytes some packed

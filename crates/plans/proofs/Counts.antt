@@ -1,5 +1,5 @@
--- How many clauses and literals a node's clauses, and those of a list of nodes, can have.
-use Rattle.std.proofs.Common.{◌≡◌, ℕ, zero, suc, ◌+◌, ◌*◌, ◌<◌, ◌≤◌, Bool, true, false, cond, not, List, [], ◌∷◌, ◌++◌, map, length, get_or, filter, refl, arith}
+-- How many clauses and literals the clauses of a node, of a list of nodes and of a plan can have.
+use Rattle.std.proofs.Common.{◌≡◌, ℕ, zero, suc, ◌+◌, ◌*◌, ◌<◌, ◌≤◌, Bool, true, false, cond, not, List, [], ◌∷◌, ◌++◌, map, length, get_or, filter, Some, None, Option, refl, arith}
 use Rattle.std.proofs.lemmas.List.{length-append}
 use Rattle.gates.specs.declared.kinds.SlotLiteral.{SlotLiteral}
 use Rattle.gates.specs.Kinds.{Kind, Sized}
@@ -9,9 +9,9 @@ use Rattle.gates.proofs.InstanceShape.{instance_length}
 use Rattle.gates.proofs.Known.{known_code}
 use Rattle.gates.proofs.PatternSizes.{pattern_short}
 use Rattle.model.specs.Dockets.{literal_count}
-use Rattle.model.specs.Plans.{nodes_clauses}
+use Rattle.model.specs.Plans.{Plan, nodes_clauses, root_clauses, plan_clauses}
 
-pub literal_count-append : {A : Type 0} (cs ds : List (List A)) → literal_count (cs ++ ds) ≡ literal_count cs + literal_count ds
+literal_count-append : {A : Type 0} (cs ds : List (List A)) → literal_count (cs ++ ds) ≡ literal_count cs + literal_count ds
 literal_count-append [] ds = omega arith
 literal_count-append (c ∷ cs) ds = let ih = literal_count-append cs ds in omega arith
 
@@ -44,6 +44,10 @@ within_patterns K z node = go (known K node)
     go true = (kept_count z node.operands (K.patterns node.code), kept_literals z node.operands (K.patterns node.code))
     go false = (omega arith, omega arith)
 
+root_one : (o : Option ℕ) → (length (root_clauses o) ≤ 1) × (literal_count (root_clauses o) ≤ 1)
+root_one None = (omega arith, omega arith)
+root_one (Some r) = (omega arith, omega arith)
+
 -- a kind that keeps to its sizes
 module _ (K : Kind) (sized : Sized K) where
   pub patterns_few : (code : ℕ) → code < K.codes → (length (K.patterns code) ≤ 16) × (literal_count (K.patterns code) ≤ 288)
@@ -52,7 +56,7 @@ module _ (K : Kind) (sized : Sized K) where
       let literals = few_literals (K.patterns code) (λ i. pattern_short K sized code i h) in
       (count, omega arith)
 
-  pub node_few : (z : ℕ) (node : Node) → (length (clauses_of K z node) ≤ 16) × (literal_count (clauses_of K z node) ≤ 288)
+  node_few : (z : ℕ) (node : Node) → (length (clauses_of K z node) ≤ 16) × (literal_count (clauses_of K z node) ≤ 288)
   node_few z node = go (known K node) refl
     where
       go : (b : Bool) → known K node ≡ b → (length (kept z node.operands (cond b (K.patterns node.code) [])) ≤ 16) × (literal_count (kept z node.operands (cond b (K.patterns node.code) [])) ≤ 288)
@@ -62,7 +66,7 @@ module _ (K : Kind) (sized : Sized K) where
           (omega (arith, kept_count z node.operands ps), omega (arith, kept_literals z node.operands ps))
       go false e = (omega arith, omega arith)
 
-  pub nodes_few : (n : ℕ) (gs : List Node) → (length (nodes_clauses K n gs) ≤ 16 * length gs) × (literal_count (nodes_clauses K n gs) ≤ 288 * length gs)
+  nodes_few : (n : ℕ) (gs : List Node) → (length (nodes_clauses K n gs) ≤ 16 * length gs) × (literal_count (nodes_clauses K n gs) ≤ 288 * length gs)
   nodes_few n [] = (omega arith, omega arith)
   nodes_few n (g ∷ gs) =
       let (count, literals) = node_few (n + 1) g in
@@ -70,3 +74,10 @@ module _ (K : Kind) (sized : Sized K) where
       let cs = clauses_of K (n + 1) g in
       let ds = nodes_clauses K (n + 1) gs in
       (omega (arith, length-append cs ds), omega (arith, literal_count-append cs ds))
+
+  pub plan_few : (p : Plan) → length p.gates ≤ 256 → (length (plan_clauses K p) ≤ 4097) × (literal_count (plan_clauses K p) ≤ 73729)
+  plan_few p h =
+      let (count, literals) = nodes_few p.switches p.gates in
+      let (one, single) = root_one p.root in
+      let cs = nodes_clauses K p.switches p.gates in
+      (omega (arith, length-append cs (root_clauses p.root)), omega (arith, literal_count-append cs (root_clauses p.root)))

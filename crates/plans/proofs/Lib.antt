@@ -1,11 +1,9 @@
-pub mod Begun
 pub mod ClausesLeft
 pub mod Counting
 pub mod CountingOnes
 pub mod Counts
 pub mod GateCases
-pub mod PlanDemand
-pub mod PlanParts
-pub mod PlanWritten
+pub mod PlanPut
+pub mod Putting
 pub mod Room
 pub mod SameReasons

@@ -5,6 +5,7 @@ pub mod demands;
 pub mod operands;
 pub mod plans;
 pub mod settings;
+mod sinks;
 pub mod writing;
 
 pub use plans::Plan;

@@ -1,9 +1,11 @@
 // Checking the code and the operands of a node.
-ghost use Rattle.std.specs.Prelude.{◌≡◌, ◌≤◌, true, length, take};
+ghost use Rattle.std.specs.Prelude.{◌≡◌, ◌≤◌, true, length};
+ghost use Rattle.clauses.specs.Few.{items_of};
 ghost use Rattle.model.specs.Plans.{is_signal, are_signals};
 ghost use Rattle.plans.specs.NodeReasons.{node_in, node_answer};
 
 use clauses::Refusal;
+use clauses::few::Few;
 use gates::{GateKind, NodeRecord};
 
 // Whether a number is one of the first signals.
@@ -17,23 +19,18 @@ pub fn is_signal(signals: u16, signal: u32) -> bool
 fn are_signals(signals: u16, operands: &[u32]) -> bool
     ensures { result ≡ are_signals signals operands.now }
 {
-    for operand in operands {
-        if !is_signal(signals, *operand) {
-            return false;
-        }
-    }
-    true
+    operands.iter().all(|operand| is_signal(signals, *operand))
 }
 
 // The operands in the width in which a record keeps them.
-fn narrowed(signals: u16, operands: &[u32]) -> [u16; 8]
+fn narrowed(signals: u16, operands: &[u32]) -> Few<u16, 8>
     requires few { length operands.now ≤ 8 }
     requires there { are_signals signals operands.now ≡ true }
-    ensures { take (length operands.now) result ≡ operands.now }
+    ensures { items_of result ≡ operands.now }
 {
-    let mut kept = [0; 8];
-    for (i, operand) in operands.iter().enumerate() {
-        kept[i] = *operand as u16;
+    let mut kept = Few::new();
+    for operand in operands {
+        kept.push(*operand as u16);
     }
     kept
 }
@@ -46,7 +43,7 @@ pub fn node_record<G: GateKind>(
 ) -> Result<NodeRecord, Refusal>
     ensures { node_in result ≡ node_answer G.GateKind.kind signals code operands.now }
 {
-    if code >= G::code_count() as u32 {
+    if code >= G::CODES as u32 {
         return Err(Refusal::Operator);
     }
     let code = code as u8;
@@ -56,6 +53,8 @@ pub fn node_record<G: GateKind>(
     if !are_signals(signals, operands) {
         return Err(Refusal::NoSignal);
     }
-    let kept = narrowed(signals, operands);
-    Ok(NodeRecord::new(code, &kept[0..operands.len()]))
+    Ok(NodeRecord {
+        code,
+        operands: narrowed(signals, operands),
+    })
 }

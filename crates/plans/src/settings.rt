@@ -2,7 +2,6 @@
 ghost use Rattle.std.specs.Prelude.{◌≡◌, ◌≤◌, T, length};
 ghost use Rattle.model.specs.Plans.{true_under};
 ghost use Rattle.model.specs.Settings.{bit_at, setting_of, well_packed, count_on};
-ghost use Rattle.plans.specs.PlanStates.{plan_of};
 ghost use Rattle.plans.specs.Showings.{setting_answer};
 
 use crate::plans::Plan;
@@ -30,39 +29,33 @@ fn well_packed(switches: u16, setting: &[u8]) -> bool
 fn bit_at(setting: &[u8], place: usize) -> bool
     ensures { result ≡ bit_at setting.now place }
 {
-    let byte = place / 8;
-    if byte >= setting.len() {
-        return false;
+    match setting.get(place / 8) {
+        Some(byte) => (*byte >> (place % 8) as u8) & 1 == 1,
+        None => false,
     }
-    (setting[byte] >> (place % 8) as u8) & 1 == 1
 }
 
 // Takes a packed setting apart.
 fn unpack(setting: &[u8], values: &mut [bool])
     ensures { values.new ≡ setting_of (length values.old) setting.now }
 {
-    for place in 0..values.len() {
-        values[place] = bit_at(setting, place);
+    for (place, value) in values.iter_mut().enumerate() {
+        *value = bit_at(setting, place);
     }
 }
 
 // How many switches are on: the ones in the bytes.
 fn count_on(switches: u16, setting: &[u8]) -> u16
     requires some { 1 ≤ switches }
-    requires few { switches ≤ 256 }
     requires packed { T (well_packed switches setting.now) }
     ensures { result ≡ count_on (setting_of switches setting.now) }
 {
-    let mut on = 0;
-    for byte in setting {
-        on += byte.count_ones() as u16;
-    }
-    on
+    setting.iter().map(|byte| byte.count_ones() as u16).sum()
 }
 
 // Whether a plan is true under a packed setting.
 fn true_under<G: GateKind>(plan: &Plan<G>, setting: &[u8]) -> bool
-    ensures { result ≡ true_under G.GateKind.kind (plan_of plan.now) (setting_of (plan_of plan.now).switches setting.now) }
+    ensures { result ≡ true_under G.GateKind.kind plan.now (setting_of plan.now.switches setting.now) }
 {
     let Some(root) = plan.root_signal() else {
         return false;
@@ -77,12 +70,12 @@ fn true_under<G: GateKind>(plan: &Plan<G>, setting: &[u8]) -> bool
 
 // How many switches are on in a setting that makes the plan true.
 pub fn shown<G: GateKind>(plan: &Plan<G>, setting: &[u8]) -> Result<u16, Refusal>
-    ensures { result ≡ setting_answer G.GateKind.kind (plan_of plan.now) setting.now }
+    ensures { result ≡ setting_answer G.GateKind.kind plan.now setting.now }
 {
     if !well_packed(plan.switches(), setting) {
         return Err(Refusal::Setting);
     }
-    if !true_under::<G>(plan, setting) {
+    if !true_under(plan, setting) {
         return Err(Refusal::PlanFalse);
     }
     Ok(count_on(plan.switches(), setting))

@@ -1,4 +1,3 @@
 pub mod DefineCases
 pub mod EventCases
 pub mod LawOnDockets
-pub mod Resolvents

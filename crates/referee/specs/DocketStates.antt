@@ -16,11 +16,11 @@ use Rattle.model.specs.Calls.{definition_reasons}
 use Rattle.referee.specs.declared.dockets.Docket.{Docket}
 use Rattle.referee.specs.declared.dockets.Call.{Call}
 use Rattle.referee.specs.declared.dockets.Call.TheVariants.{Define, Resolve, Strike, Settle, Show}
-use Rattle.plans.specs.PlanStates.{plan_of, RefusedAs}
+use Rattle.plans.specs.PlanStates.{RefusedAs}
 
 abbrev pub state_of : {G B : Type 0} {g : gate_kind.Ghosts G} {h : clause_book.Ghosts B} → (B → Book) → Docket G B g h → dockets.Docket
 state_of meaning d = record {
-  plan = plan_of d.plan;
+  plan = d.plan;
   definitions = map node_of (vec_items d.definitions);
   standing = d.standing;
   book = meaning d.book;

@@ -3,7 +3,6 @@ ghost use Rattle.std.specs.Prelude.{◌≤◌, vec_len, vec_capacity};
 ghost use Rattle.clauses.specs.Limits.{max_signals};
 
 use books::ClauseBook;
-use clauses::Refusal;
 use gates::{GateKind, NodeRecord};
 use model::Standing;
 use plans::Plan;
@@ -16,7 +15,7 @@ mod resolving;
 mod runs;
 mod standings;
 
-// What a call comes to, before the docket's standing is asked.
+// What a call that is not refused on its own account comes to, before the docket's standing is asked.
 #[derive(Clone, Copy)]
 pub enum Event {
     // a step that leaves the docket open
@@ -25,7 +24,6 @@ pub enum Event {
     Refuted,
     // a setting with so many switches on makes the plan true
     Shown(u16),
-    Failed(Refusal),
 }
 
 // A call as data; operands and the packed setting are borrowed.

@@ -1,7 +1,7 @@
 -- What the spelling of a number is like, and that a field which looks so is its spelling.
-use Rattle.std.proofs.Common.{◌≡◌, ℕ, ◌-◌, ◌<◌, ◌≤◌, true, List, [], ◌∷◌, length, get_or, Ok, Err, decimal, sym, refl, subst, inl, inr, arith}
+use Rattle.std.proofs.Common.{◌≡◌, ℕ, ◌-◌, ◌<◌, ◌≤◌, true, false, List, [], ◌∷◌, length, get_or, Ok, Err, decimal, sym, refl, ◌∙◌, subst, inl, inr, arith}
 use Rattle.std.specs.Str.Parse.{digits_value, AllDigits}
-use Rattle.std.specs.Char.{digit_value as digitValue}
+use Rattle.std.specs.Char.{is_ascii_digit, digit_value as digitValue}
 use Rattle.std.specs.Str.{all_ascii_digits}
 use Rattle.std.proofs.lemmas.Bool.{cases_lt, cases_Bool, and_parts, leb-true, le-leb, ne_eqb, eq-eqb, false≢true}
 use Rattle.std.proofs.lemmas.Bool.Decides.{nat_tests}
@@ -38,6 +38,13 @@ spelling ds v small e =
       digits = digits_decimal own v (omega arith);
       reads = digits_value-decimal own v (omega arith);
     }
+
+-- what the test of a digit says
+pub is_digit : (b : ℕ) → is_ascii_digit b ≡ true → (48 ≤ b) × (b ≤ 57)
+is_digit b t = (grind (arith, nat_tests), grind (arith, nat_tests))
+
+pub no_digit : (b : ℕ) → 48 ≤ b → b ≤ 57 → is_ascii_digit b ≡ false → ⊥
+no_digit b low high t = let e : is_ascii_digit b ≡ true = grind (arith, nat_tests) in false≢true (sym t ∙ e)
 
 pub digit_value : (b : ℕ) → 48 ≤ b → b ≤ 57 → digitValue b ≡ b - 48
 digit_value b low high = grind (arith, nat_tests)

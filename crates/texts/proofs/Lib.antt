@@ -4,4 +4,3 @@ pub mod LineNumbers
 pub mod LineForms
 pub mod Joining
 pub mod LineSpelling
-pub mod Digits

@@ -1,35 +1,23 @@
 -- The forms of lines whose fields are not numbers alone, and of lines with no form.
-use Rattle.std.proofs.Common.{◌≡◌, ℕ, ◌+◌, ◌<◌, ◌≤◌, true, false, ◌||◌, eqb, ◌⊎◌, List, [], ◌∷◌, length, get_or, drop, Some, Ok, Err, Option, Result, sym, refl, inl, inr, arith}
-use Rattle.std.proofs.lemmas.Bool.{ne_eqb, eq-eqb, or_left, or_right}
-use Rattle.std.proofs.lemmas.List.{at_drop_more, at_drop_all}
+use Rattle.std.proofs.Common.{◌≡◌, ℕ, ◌≤◌, true, false, List, [], ◌∷◌, length, Some, None, Ok, Err, Option, Result, refl, arith}
+use Rattle.std.proofs.lemmas.Bool.{ne_eqb}
 use Rattle.clauses.specs.declared.refusals.Refusal.{Refusal}
 use Rattle.clauses.specs.declared.refusals.Refusal.TheVariants.{BadLine}
 use Rattle.texts.specs.declared.lines.PlanKind.{PlanKind}
 use Rattle.texts.specs.Numbers.{number_answer}
-use Rattle.texts.specs.Lines.{Show, numbers, kind_of, kind_form, letter_of, plan_form, lone, all_bits, show_form, then_numbers, fields_of, form_of, line_form}
-use Rattle.texts.specs.declared.reader.Field.{Field}
-use Rattle.texts.specs.Fields.{HandsField}
+use Rattle.texts.specs.Lines.{Show, numbers, kind_of, kind_form, letter_of, plan_form, all_bits, show_form, then_numbers, fields_of, form_of, line_form}
 use Rattle.texts.proofs.LineNumbers.{numbers_ok}
 
--- a field that was handed out stood first
-pub handed : (o : Option Field) (f : Field) (fs after : List (List ℕ)) → o ≡ Some f → HandsField o fs after → fs ≡ f.text.now ∷ after
-handed o f fs after e h = rw e at h
-
--- a field of no bytes is none
-pub lone_empty : (f : List ℕ) (fs after : List (List ℕ)) → fs ≡ f ∷ after → after ≡ [] → length f ≡ 0 → lone fs ≡ []
-lone_empty [] fs after h e z = rw (h, e) refl
-lone_empty (b ∷ bs) fs after h e z = absurd (omega arith)
-
 -- a plan wants one number
-pub no_switches : (k : List ℕ) (kind : PlanKind) (fs after : List (List ℕ)) → fs ≡ k ∷ after → kind_of (letter_of k) ≡ Some kind
-    → ((v : ℕ) → numbers after ≡ Ok (v ∷ []) → ⊥) → plan_form fs ≡ Err BadLine
-no_switches k kind fs [] h e none = rw h refl
-no_switches k kind fs (n ∷ []) h e none = rw (h, e) (go (number_answer n) refl)
+pub no_switches : (k : List ℕ) (after : List (List ℕ)) → ((v : ℕ) → numbers after ≡ Ok (v ∷ []) → ⊥) → plan_form (k ∷ after) ≡ Err BadLine
+no_switches k [] none = refl
+no_switches k (n ∷ []) none = by_kind (kind_of (letter_of k)) (number_answer n) refl
   where
-    go : (a : Result ℕ Refusal) → number_answer n ≡ a → kind_form (Some kind) (number_answer n) ≡ Err BadLine
-    go (Ok v) p = absurd (none v (numbers_ok n [] v p))
-    go (Err d) p = rw p refl
-no_switches k kind fs (n ∷ (m ∷ ms)) h e none = rw h refl
+    by_kind : (kind : Option PlanKind) (a : Result ℕ Refusal) → number_answer n ≡ a → kind_form kind a ≡ Err BadLine
+    by_kind None a p = refl
+    by_kind (Some kind) (Ok v) p = absurd (none v (numbers_ok n [] v p))
+    by_kind (Some kind) (Err d) p = refl
+no_switches k (n ∷ (m ∷ ms)) none = refl
 
 pub shown : (ds : List ℕ) → 1 ≤ length ds → all_bits ds ≡ true → show_form ds ≡ Ok (Show ds)
 shown [] h e = absurd (omega arith)
@@ -46,26 +34,6 @@ pub no_letter : (letter : ℕ) (x : Result (List ℕ) Refusal)
 no_letter letter (Ok vs) g r d u x e =
     rw (ne_eqb letter 103 g, ne_eqb letter 114 r, ne_eqb letter 100 d, ne_eqb letter 117 u, ne_eqb letter 120 x, ne_eqb letter 101 e) refl
 no_letter letter (Err c) g r d u x e = refl
-
-bit : (b : ℕ) → (b ≡ 48) ⊎ (b ≡ 49) → (eqb b 48 || eqb b 49) ≡ true
-bit b (inl e) = or_left _ _ (eq-eqb b 48 e)
-bit b (inr e) = or_right _ _ (eq-eqb b 49 e)
-
--- the digits that are left decide
-pub bits_more : (ds : List ℕ) (i : ℕ) → i < length ds → (get_or ds i 0 ≡ 48) ⊎ (get_or ds i 0 ≡ 49) → all_bits (drop i ds) ≡ all_bits ds → all_bits (drop (i + 1) ds) ≡ all_bits ds
-bits_more ds i h e inv =
-    let d = at_drop_more all_bits ds i 0 h in
-    let t = bit (get_or ds i 0) e in
-    rw (d, t) at inv
-
-pub bits_not : (ds : List ℕ) (i : ℕ) → i < length ds → (get_or ds i 0 ≡ 48 → ⊥) → (get_or ds i 0 ≡ 49 → ⊥) → all_bits (drop i ds) ≡ all_bits ds → all_bits ds ≡ false
-bits_not ds i h p q inv =
-    let d = at_drop_more all_bits ds i 0 h in
-    let t : (eqb (get_or ds i 0) 48 || eqb (get_or ds i 0) 49) ≡ false = rw (ne_eqb (get_or ds i 0) 48 p, ne_eqb (get_or ds i 0) 49 q) refl in
-    sym (rw (d, t) at inv)
-
-pub bits_all : (ds : List ℕ) (i : ℕ) → length ds ≤ i → all_bits (drop i ds) ≡ all_bits ds → all_bits ds ≡ true
-bits_all ds i h inv = let d = at_drop_all all_bits ds i h in sym (rw d at inv)
 
 -- a line whose letter is none of the nine
 pub no_form : (line f : List ℕ) (fs : List (List ℕ)) (letter : ℕ) → fields_of line ≡ f ∷ fs → letter_of f ≡ Some letter

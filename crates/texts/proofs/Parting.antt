@@ -1,68 +1,86 @@
 -- How a text is parted at its first byte 10, and a line at its first blank.
-use Rattle.std.proofs.Common.{◌≡◌, ℕ, suc, ◌+◌, ◌-◌, ◌<◌, ◌≤◌, not, eqb, List, [], ◌∷◌, length, get_or, take, drop, Some, None, refl, inl, inr, one-add, arith, length-drop}
-use Rattle.std.proofs.lemmas.List.{drop-drop, drop_more}
-use Rattle.std.proofs.lemmas.Bool.{cases_Bool, ne_eqb, eq-eqb, not_from_false, not_from_true}
-use Rattle.std.proofs.lemmas.List.Sums.{prefix_len-drop_yes, prefix_len-drop_no, prefix_len-drop_all}
-use Rattle.texts.specs.Fields.{before, fields_behind}
+use Rattle.std.proofs.Common.{◌≡◌, ℕ, ◌+◌, ◌<◌, ◌≤◌, not, eqb, List, [], ◌∷◌, length, take, drop, Some, None, unwrap_or, refl, inl, inr, one-add, arith}
+use Rattle.std.specs.List.{position, position_or_len, prefix_len}
+use Rattle.std.proofs.lemmas.Bool.{cases_Bool, cases_lt, lt-ltb, le-ltb}
+use Rattle.std.proofs.lemmas.List.{drop_more, drop_all}
+use Rattle.std.specs.Char.{is_ascii_digit}
+use Rattle.std.proofs.lemmas.List.Sums.{prefix_len-le-length}
+use Rattle.texts.specs.Fields.{fields_behind}
+use Rattle.texts.specs.Characters.{behind}
 use Rattle.texts.specs.Lines.{lines_of, onto_line, fields_of}
 
--- one step of the way to a byte, and its end
-pub before_more : (stop : ℕ) (text : List ℕ) (at : ℕ) → at < length text → (get_or text at 0 ≡ stop → ⊥) → before stop (drop at text) ≡ 1 + before stop (drop (at + 1) text)
-before_more stop text at h e = prefix_len-drop_yes (λ b. not (eqb b stop)) text at 0 h (not_from_false _ (ne_eqb _ stop e))
-
-pub before_here : (stop : ℕ) (text : List ℕ) (at : ℕ) → at < length text → get_or text at 0 ≡ stop → before stop (drop at text) ≡ 0
-before_here stop text at h e = prefix_len-drop_no (λ b. not (eqb b stop)) text at 0 h (not_from_true _ (eq-eqb _ stop e))
-
-pub before_end : (stop : ℕ) (text : List ℕ) (at : ℕ) → length text ≤ at → before stop (drop at text) ≡ 0
-before_end stop text at h = prefix_len-drop_all (λ b. not (eqb b stop)) text at h
-
--- a line that byte 10 ends
-pub line_cut : (bs : List ℕ) → before 10 bs < length bs → lines_of bs ≡ Some (take (before 10 bs) bs) ∷ lines_of (drop (1 + before 10 bs) bs)
-line_cut [] h = absurd (omega arith)
-line_cut (b ∷ bs) h =
-    elim (cases_Bool (eqb b 10)) [
-      | inl t ↦ rw t refl
-      | inr f ↦ let k : before 10 bs < length bs = let z = rw f at h in omega arith in rw (f, line_cut bs k, one-add (before 10 bs)) (simp (one-add (suc (before 10 bs))))
+-- what stands behind the next character
+pub behind_drop : (n : ℕ) (bs : List ℕ) → behind (drop n bs) ≡ drop (n + 1) bs
+behind_drop n bs =
+    elim (cases_lt n (length bs)) [
+      | inl h ↦ rw (drop_more bs n 0 h) refl
+      | inr h ↦ let k : length bs ≤ n + 1 = omega arith in rw (drop_all n bs h, drop_all (n + 1) bs k) refl
     ]
 
-uncut : (b : ℕ) (bs : List ℕ) → length bs ≤ before 10 bs → onto_line b (lines_of bs) ≡ None ∷ []
+-- how far on a byte stands
+abbrev place : ℕ → List ℕ → ℕ
+place stop bs = position_or_len (λ b. eqb b stop) bs
+
+cut : (bs : List ℕ) → place 10 bs < length bs → lines_of bs ≡ Some (take (place 10 bs) bs) ∷ lines_of (behind (drop (place 10 bs) bs))
+cut [] h = absurd (omega arith)
+cut (b ∷ bs) h =
+    elim (cases_Bool (eqb b 10)) [
+      | inl t ↦ rw t refl
+      | inr f ↦ let k : place 10 bs < length bs = let z = rw f at h in omega arith in rw (f, cut bs k, one-add (place 10 bs)) refl
+    ]
+
+uncut : (b : ℕ) (bs : List ℕ) → length bs ≤ place 10 bs → onto_line b (lines_of bs) ≡ None ∷ []
 uncut b [] h = refl
 uncut b (d ∷ bs) h =
     elim (cases_Bool (eqb d 10)) [
       | inl t ↦ let z = rw t at h in absurd (omega arith)
-      | inr f ↦ let z = rw f at h in let k : length bs ≤ before 10 bs = omega arith in rw (f, uncut d bs k) refl
+      | inr f ↦ let z = rw f at h in let k : length bs ≤ place 10 bs = omega arith in rw (f, uncut d bs k) refl
     ]
 
+pub field_cut : (bs : List ℕ) → fields_of bs ≡ take (place 32 bs) bs ∷ fields_behind (drop (place 32 bs) bs)
+field_cut [] = refl
+field_cut (b ∷ bs) = elim (cases_Bool (eqb b 32)) [ inl t ↦ rw t refl | inr f ↦ rw (f, field_cut bs, one-add (place 32 bs)) refl ]
+
+-- what is found, and what is not
+found : (stop : ℕ) (bs : List ℕ) (n : ℕ) → position (λ b. eqb b stop) bs ≡ Some n → (n ≡ place stop bs) × (place stop bs < length bs)
+found stop bs n e =
+    elim (cases_lt (place stop bs) (length bs)) [
+      | inl h ↦ let t = lt-ltb (place stop bs) (length bs) h in let z = rw t at e in (cc, h)
+      | inr h ↦ let t = le-ltb (place stop bs) (length bs) h in let z = rw t at e in absurd (cc)
+    ]
+
+lost : (stop : ℕ) (bs : List ℕ) → position (λ b. eqb b stop) bs ≡ None → length bs ≤ place stop bs
+lost stop bs e =
+    elim (cases_lt (place stop bs) (length bs)) [
+      | inl h ↦ let t = lt-ltb (place stop bs) (length bs) h in let z = rw t at e in absurd (cc)
+      | inr h ↦ h
+    ]
+
+found_or_end : (stop : ℕ) (bs : List ℕ) → unwrap_or (position (λ b. eqb b stop) bs) (length bs) ≡ place stop bs
+found_or_end stop bs =
+    elim (cases_lt (place stop bs) (length bs)) [
+      | inl h ↦ rw (lt-ltb (place stop bs) (length bs) h) refl
+      | inr h ↦ rw (le-ltb (place stop bs) (length bs) h) (omega (arith, prefix_len-le-length (λ b. not (eqb b stop)) bs))
+    ]
+
+-- a line that byte 10 ends
+pub line_at : (bs : List ℕ) (n : ℕ) → position (λ b. eqb b 10) bs ≡ Some n → lines_of bs ≡ Some (take n bs) ∷ lines_of (behind (drop n bs))
+line_at bs n e = let f = found 10 bs n e in rw f.0 (cut bs f.1)
+
 -- a last line that it does not end
-pub line_uncut : (b : ℕ) (bs : List ℕ) → length (b ∷ bs) ≤ before 10 (b ∷ bs) → lines_of (b ∷ bs) ≡ None ∷ []
-line_uncut b bs h =
+pub line_left : (bs : List ℕ) → position (λ b. eqb b 10) bs ≡ None → 0 < length bs → lines_of bs ≡ None ∷ []
+line_left [] e h = absurd (omega arith)
+line_left (b ∷ bs) e h =
+    let l = lost 10 (b ∷ bs) e in
     elim (cases_Bool (eqb b 10)) [
-      | inl t ↦ let z = rw t at h in absurd (omega arith)
-      | inr f ↦ let z = rw f at h in rw f (uncut b bs (omega arith))
+      | inl t ↦ let z = rw t at l in absurd (omega arith)
+      | inr f ↦ let z = rw f at l in rw f (uncut b bs (omega arith))
     ]
 
 -- a field goes to the next blank or to the end
-pub field_cut : (bs : List ℕ) → fields_of bs ≡ take (before 32 bs) bs ∷ fields_behind (drop (before 32 bs) bs)
-field_cut [] = refl
-field_cut (b ∷ bs) = elim (cases_Bool (eqb b 32)) [ inl t ↦ rw t refl | inr f ↦ rw (f, field_cut bs, one-add (before 32 bs)) refl ]
+pub field_at : (bs : List ℕ) (n : ℕ) → n ≡ unwrap_or (position (λ b. eqb b 32) bs) (length bs) → fields_of bs ≡ take n bs ∷ fields_behind (drop n bs)
+field_at bs n e = rw (e, found_or_end 32 bs) (field_cut bs)
 
--- the same of what is left of a text at a place
-pub line_at : (text : List ℕ) (at end : ℕ) → end ≡ at + before 10 (drop at text) → end < length text
-    → lines_of (drop at text) ≡ Some (take (end - at) (drop at text)) ∷ lines_of (drop (end + 1) text)
-line_at text at end e h =
-    let n : end - at ≡ before 10 (drop at text) = omega arith in
-    let m : at + (1 + before 10 (drop at text)) ≡ end + 1 = omega arith in
-    let k : before 10 (drop at text) < length (drop at text) = simp length-drop (omega arith) in
-    rw (n, ← m, ← drop-drop (1 + before 10 (drop at text)) at text) (line_cut (drop at text) k)
-
-pub uncut_at : (text : List ℕ) (at : ℕ) → at < length text → length text ≡ at + before 10 (drop at text) → lines_of (drop at text) ≡ None ∷ []
-uncut_at text at h e =
-    let d = drop_more text at 0 h in
-    let n : length (drop at text) ≤ before 10 (drop at text) = simp length-drop (omega arith) in
-    rw d (line_uncut _ _ (rw d at n))
-
-pub field_at : (text : List ℕ) (at end : ℕ) → end ≡ at + before 32 (drop at text)
-    → fields_of (drop at text) ≡ take (end - at) (drop at text) ∷ fields_behind (drop end text)
-field_at text at end e =
-    let n : end - at ≡ before 32 (drop at text) = omega arith in
-    rw (n, e, ← drop-drop (before 32 (drop at text)) at text) (field_cut (drop at text))
+-- no more digits than bytes
+pub digits_within : (bs : List ℕ) → prefix_len is_ascii_digit bs ≤ length bs
+digits_within bs = prefix_len-le-length is_ascii_digit bs

@@ -1,12 +1,7 @@
 -- What is left of a text, by the parts that a reader has handed out.
-use Rattle.std.specs.Prelude.{◌≡◌, ℕ, not, List, [], ◌∷◌, Some, None, Option, ◌==◌}
-use Rattle.std.specs.List.{prefix_len}
+use Rattle.std.specs.Prelude.{◌≡◌, ℕ, List, [], ◌∷◌, Some, None, Option}
 use Rattle.texts.specs.declared.reader.Field.{Field}
 use Rattle.texts.specs.Lines.{fields_of}
-
--- how many bytes stand before the first such one, or before the end
-abbrev pub before : ℕ → List ℕ → ℕ
-before stop bs = prefix_len (λ b. not (b == stop)) bs
 
 -- the fields that follow, the first behind one byte, its blank
 abbrev pub fields_behind : List ℕ → List (List ℕ)

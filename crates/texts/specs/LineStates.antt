@@ -1,6 +1,7 @@
 -- What a reader hands out, and the form that a value of the type Line has.
-use Rattle.std.specs.Prelude.{◌≡◌, ℕ, List, [], ◌∷◌, take, Some, None, Ok, Err, Option, Result}
+use Rattle.std.specs.Prelude.{◌≡◌, ℕ, List, [], ◌∷◌, Some, None, Ok, Err, Option, Result}
 use Rattle.std.specs.Borrow.{Bor}
+use Rattle.clauses.specs.Few.{items_of}
 use Rattle.clauses.specs.declared.refusals.Refusal.{Refusal}
 use Rattle.clauses.specs.declared.refusals.Refusal.TheVariants.{BadLine}
 use Rattle.texts.specs.declared.lines.Operands.{Operands}
@@ -16,7 +17,7 @@ HandsOut (Some (Err e)) before after = (e ≡ BadLine) × (before ≡ None ∷ [
 HandsOut (Some (Ok line)) before after = before ≡ Some line.now ∷ after
 
 abbrev pub operands_of : Operands → List ℕ
-operands_of o = take o.count o.signals
+operands_of o = items_of o.signals
 
 -- the form of a line
 abbrev pub form_in : Line → Form

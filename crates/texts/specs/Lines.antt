@@ -1,5 +1,6 @@
 -- The lines of a text, and the form of each: a letter and fields parted by single blanks.
-use Rattle.std.specs.Prelude.{ℕ, Bool, true, cond, ◌&&◌, ◌||◌, List, [], ◌∷◌, length, Some, None, Ok, Err, Option, Result, ◌==◌, nat_le}
+use Rattle.std.specs.Prelude.{ℕ, Bool, cond, ◌&&◌, ◌||◌, List, [], ◌∷◌, length, Some, None, Ok, Err, Option, Result, ◌==◌, nat_le}
+use Rattle.std.specs.List.{list_all}
 use Rattle.clauses.specs.declared.refusals.Refusal.{Refusal}
 use Rattle.clauses.specs.declared.refusals.Refusal.TheVariants.{BadLine}
 use Rattle.texts.specs.declared.lines.PlanKind.{PlanKind}
@@ -120,8 +121,7 @@ formula_form (b ∷ bs) = Ok (Formula (b ∷ bs))
 
 -- the field has digits 0 and 1 alone
 abbrev pub all_bits : List ℕ → Bool
-all_bits [] = true
-all_bits (b ∷ bs) = (b == 48 || b == 49) && all_bits bs
+all_bits digits = list_all (λ b. b == 48 || b == 49) digits
 
 -- v digits
 abbrev pub show_form : List ℕ → Result Form Refusal

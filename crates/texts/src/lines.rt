@@ -1,6 +1,12 @@
 // Lines: a letter decides what a line is, and fields parted by single blanks follow it.
+ghost use Rattle.std.specs.Prelude.{◌≤◌, length};
+ghost use Rattle.clauses.specs.Few.{items_of};
+
+use clauses::few::Few;
+
 mod fields;
 mod forms;
+mod kinds;
 mod lists;
 mod reading;
 
@@ -13,11 +19,11 @@ pub enum PlanKind {
     Wide,
 }
 
-// One to eight operands: the first `count` signals. (An enum with a reference cannot hold a struct with an invariant.)
+// One to eight operands.
 #[derive(Clone, Copy)]
 pub struct Operands {
-    count: u8,
-    signals: [u32; 8],
+    signals: Few<u32, 8>,
+    ghost some: { 1 ≤ length (items_of signals) },
 }
 
 // A line by its letter.

@@ -1,11 +1,12 @@
 -- The bytes that digits are packed in: their size and their bits.
-use Rattle.std.proofs.Common.{◌≡◌, ℕ, zero, suc, ◌+◌, ◌-◌, ◌*◌, ◌/◌, ◌%◌, ◌^◌, ◌<◌, ◌≤◌, min, Bool, true, false, cond, eqb, List, [], ◌∷◌, map, length, get_or, take, drop, sym, refl, ap, ◌∙◌, inl, inr, arith}
+use Rattle.std.proofs.Common.{◌≡◌, ℕ, zero, suc, ◌+◌, ◌-◌, ◌*◌, ◌/◌, ◌%◌, ◌^◌, ◌<◌, ◌≤◌, min, Bool, true, false, cond, eqb, List, [], ◌∷◌, ◌++◌, map, length, get_or, take, drop, sym, refl, ap, ◌∙◌, ap₂, arith}
 use native.Mathlib.Nat.{div-eq_of_lt}
 use mir.Val.{bool_byte}
 use Rattle.std.proofs.lemmas.Nat.{pow_pos, pow-add, shr-shr}
 use Rattle.std.proofs.lemmas.List.FromFn.{length-map-range_with_len, get_or-map-range_with_len, fill_by_all}
-use Rattle.std.proofs.lemmas.List.{length-take, length-drop, length-map, get_or-take, get_or-drop, get_or-map, drop_more, take_all}
-use Rattle.std.proofs.lemmas.Bool.{eq-eqb, and_from, cases_lt}
+use Rattle.std.proofs.lemmas.List.{append-nil, append_assoc, drop-drop, length-append, length-take, length-drop, length-map, get_or-take, get_or-drop, get_or-map, take_all, drop_all, take_at, drop_at}
+use Rattle.std.specs.List.{range_with_len}
+use Rattle.std.proofs.lemmas.Bool.{eq-eqb, and_from}
 use Rattle.model.specs.Settings.{bit_at, setting_of, spare_bits, well_packed}
 use Rattle.verdicts.specs.Digits.{is_on, byte_of, bytes_of, packed_digits, DigitsLaw}
 
@@ -26,26 +27,44 @@ byte_small k [] h = pow_pos k
 byte_small zero (d ∷ ds) h = absurd (omega arith)
 byte_small (suc k) (d ∷ ds) h = omega (arith, bit_small (is_on d), byte_small k ds (omega arith), pow-add 2 1 k)
 
--- one more digit in front
-pub byte_more : (digits : List ℕ) (place : ℕ) → 0 < place → place ≤ length digits
-    → 2 * byte_of (drop place digits) + bool_byte (eqb (get_or digits (place - 1) 0) 49) ≡ byte_of (drop (place - 1) digits)
-byte_more digits place some h =
-    let e : place - 1 + 1 ≡ place = omega arith in
-    let d = ap byte_of (drop_more digits (place - 1) 0 (omega arith)) in
-    omega (arith, d, as_bit (is_on (get_or digits (place - 1) 0)), ap (λ i. byte_of (drop i digits)) e)
+-- one more digit in front of those that were read
+pub byte_more : (d : ℕ) (ds : List ℕ) → 2 * byte_of ds + bool_byte (eqb d 49) ≡ byte_of (d ∷ ds)
+byte_more d ds = omega (arith, as_bit (is_on d))
 
-pub byte_fits : (digits : List ℕ) (place : ℕ) → length digits ≤ 8 → 0 < place → place ≤ length digits
-    → 2 * byte_of (drop place digits) + bool_byte (eqb (get_or digits (place - 1) 0) 49) < 256
-byte_fits digits place few some h =
-    omega (arith, byte_more digits place some h, byte_small 8 (drop (place - 1) digits) (simp length-drop (omega arith)))
+pub digits_more : (d : ℕ) (ds front rest digits : List ℕ) → rest ≡ front ++ d ∷ [] → digits ≡ rest ++ ds → digits ≡ front ++ (d ∷ ds)
+digits_more d ds front rest digits s e = e ∙ rw (s, append_assoc) refl
 
--- eight digits, or those that are left
-pub take_eight : (end at : ℕ) (digits : List ℕ) → end ≡ min (length digits) (at + 8) → at ≤ length digits → take (end - at) (drop at digits) ≡ take 8 (drop at digits)
-take_eight end at digits e h =
-    elim (cases_lt (length digits) (at + 8)) [
-      | inl short ↦ take_all _ _ (simp length-drop (omega arith)) ∙ sym (take_all 8 _ (simp length-drop (omega arith)))
-      | inr long ↦ let full : end - at ≡ 8 = omega arith in ap (λ k. take k (drop at digits)) full
-    ]
+pub byte_fits : (d : ℕ) (ds front rest digits : List ℕ) → rest ≡ front ++ d ∷ [] → digits ≡ rest ++ ds → length digits ≤ 8 → 2 * byte_of ds + bool_byte (eqb d 49) < 256
+byte_fits d ds front rest digits s e few =
+    let n : length (d ∷ ds) ≤ 8 = omega (arith, simp length-append at (ap length (digits_more d ds front rest digits s e))) in
+    omega (arith, byte_more d ds, byte_small 8 (d ∷ ds) n)
+
+pub all_read : (rest ds digits : List ℕ) → digits ≡ rest ++ ds → length rest ≡ 0 → byte_of digits ≡ byte_of ds
+all_read [] ds digits e h = ap byte_of e
+all_read (r ∷ rest) ds digits e h = absurd (omega arith)
+
+shifted : (f g : ℕ → ℕ) → ((i : ℕ) → f (i + 1) ≡ g i) → (a n : ℕ) → map f (range_with_len (a + 1) n) ≡ map g (range_with_len a n)
+shifted f g h a zero = refl
+shifted f g h a (suc n) = ap₂ (λ (x : ℕ) (xs : List ℕ). x ∷ xs) (h a) (shifted f g h (a + 1) n)
+
+-- the first eight digits, and the others
+first_eight : (ds : List ℕ) → 0 < length ds → bytes_of ds ≡ byte_of (take 8 ds) ∷ bytes_of (drop 8 ds)
+first_eight ds some =
+    let n : (length ds + 7) / 8 ≡ suc ((length (drop 8 ds) + 7) / 8) = simp length-drop (omega arith) in
+    rw n (ap (λ (xs : List ℕ). byte_of (take 8 ds) ∷ xs) (shifted _ _ (λ i. let k : 8 * (i + 1) ≡ 8 + 8 * i = omega arith in rw (k, drop-drop) refl) 0 ((length (drop 8 ds) + 7) / 8)))
+
+-- eight digits off the front, or those that are left
+pub eight_more : (x rest ds : List ℕ) → ds ≡ x ++ rest → length x ≡ min 8 (length ds) → 0 < length ds → bytes_of ds ≡ byte_of x ∷ bytes_of rest
+eight_more x [] ds e size some =
+    let same : ds ≡ x = e ∙ append-nil x in
+    let few : length ds ≤ 8 = omega (arith, ap length same) in
+    first_eight ds some ∙ rw (take_all 8 ds few, drop_all 8 ds few, same) refl
+eight_more x (r ∷ rest) ds e size some =
+    let k : length x ≡ 8 = omega (arith, simp length-append at (ap length e)) in
+    first_eight ds some ∙ rw (e, take_at x (r ∷ rest) 8 k, drop_at x (r ∷ rest) 8 k) refl
+
+pub length_bytes : (ds : List ℕ) → length (bytes_of ds) ≡ (length ds + 7) / 8
+length_bytes ds = length-map-range_with_len (λ i. byte_of (take 8 (drop (8 * i) ds))) 0 ((length ds + 7) / 8)
 
 -- a digit is the bit at its place
 digit_bit : (ds : List ℕ) (j : ℕ) → j < length ds → eqb (byte_of ds / 2 ^ j % 2) 1 ≡ is_on (get_or ds j 0)

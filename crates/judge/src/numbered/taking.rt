@@ -1,15 +1,19 @@
-// One line after another.
+// One line after another, and the verdict that stops at one.
 ghost use Rattle.std.specs.Prelude.{◌≡◌, ◌+◌, ◌≤◌, length};
+ghost use Rattle.clauses.specs.declared.refusals.Refusal.TheVariants.{OutOfPlace};
+ghost use Rattle.verdicts.specs.declared.verdict_line.Verdict.TheVariants.{Refused};
 ghost use Rattle.judge.specs.Judging.{forms_of};
 ghost use Rattle.judge.specs.LineStates.{left, Takes};
 
 use super::NumberedLines;
 use clauses::Refusal;
 use texts::{Line, Reader, read_line};
+use verdicts::Verdict;
 
 impl<'a> NumberedLines<'a> {
-    // The lines of a text, none of them read.
+    // The lines of a text, none of them taken.
     pub fn new(text: &'a [u8]) -> NumberedLines<'a>
+        requires { length text.now ≤ 32768 }
         ensures lines { left result ≡ forms_of text.now }
         ensures number { result.number ≡ 0 }
     {
@@ -19,24 +23,31 @@ impl<'a> NumberedLines<'a> {
         }
     }
 
-    // The number of the line that was last asked for.
-    pub fn number(&self) -> u16
-        ensures { result ≡ self.now.number }
-    {
-        self.number
-    }
-
     // The next line, if one is left.
     pub fn take(&mut self) -> Option<Result<Line<'a>, Refusal>>
-        requires { self.old.number + length (left self.old) ≤ 32768 }
-        ensures line { Takes result (left self.old) (left self.new) }
-        ensures number { self.new.number ≡ self.old.number + 1 }
+        ensures { Takes result self.old self.new }
     {
-        self.number += 1;
-        match self.reader.next_line() {
-            None => None,
-            Some(Err(refusal)) => Some(Err(refusal)),
-            Some(Ok(line)) => Some(read_line(line)),
+        let line = self.reader.next_line();
+        if !matches!(line, Some(Ok(_))) {
+            // Nothing is left behind the end, or behind a line that is not ended.
+            self.reader = Reader::new(b"");
         }
+        let line = line?;
+        self.number += 1;
+        Some(line.and_then(|line| read_line(line)))
+    }
+
+    // The line that was last taken is refused.
+    pub fn refused(&self, refusal: Refusal) -> Verdict
+        ensures { result ≡ Refused self.now.number refusal }
+    {
+        Verdict::Refused(self.number, refusal)
+    }
+
+    // A plan that is unfinished at the end is out of place one line past the last.
+    pub fn unfinished(&self) -> Verdict
+        ensures { result ≡ Refused (self.now.number + 1) OutOfPlace }
+    {
+        Verdict::Refused(self.number + 1, Refusal::OutOfPlace)
     }
 }

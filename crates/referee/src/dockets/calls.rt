@@ -19,7 +19,7 @@ impl<G: GateKind, B: ClauseBook> Docket<G, B> {
         ensures answer { result ≡ answer G.GateKind.kind (state_of B.ClauseBook.meaning self.old) (Define signal code operands.now) }
         ensures after { state_of B.ClauseBook.meaning self.new ≡ granted result (changed G.GateKind.kind (state_of B.ClauseBook.meaning self.old) (Define signal code operands.now)) (state_of B.ClauseBook.meaning self.old) }
     {
-        self.meet(Event::Step)?;
+        self.meet(Ok(Event::Step))?;
         let node = self.definition(signal, code, operands)?;
         write_node::<G, B>(&mut self.book, &node, signal as u16);
         self.definitions.push_reserved(node);
@@ -31,7 +31,7 @@ impl<G: GateKind, B: ClauseBook> Docket<G, B> {
         ensures answer { result ≡ answer G.GateKind.kind (state_of B.ClauseBook.meaning self.old) (Resolve left right) }
         ensures after { state_of B.ClauseBook.meaning self.new ≡ granted result (changed G.GateKind.kind (state_of B.ClauseBook.meaning self.old) (Resolve left right)) (state_of B.ClauseBook.meaning self.old) }
     {
-        self.meet(Event::Step)?;
+        self.meet(Ok(Event::Step))?;
         let mut joined = [0; 2 * MAX_LITERALS];
         let count = resolvent(&self.book, left, right, &mut joined)?;
         self.book.write(&joined[0..count])
@@ -42,7 +42,7 @@ impl<G: GateKind, B: ClauseBook> Docket<G, B> {
         ensures answer { zero_answer result ≡ answer G.GateKind.kind (state_of B.ClauseBook.meaning self.old) (Strike number) }
         ensures after { state_of B.ClauseBook.meaning self.new ≡ granted result (changed G.GateKind.kind (state_of B.ClauseBook.meaning self.old) (Strike number)) (state_of B.ClauseBook.meaning self.old) }
     {
-        self.meet(Event::Step)?;
+        self.meet(Ok(Event::Step))?;
         self.book.strike(number)
     }
 

@@ -1,14 +1,15 @@
 // Opening a docket on a plan and a book, and closing it.
-ghost use Rattle.std.specs.Prelude.{◌≡◌};
+ghost use Rattle.std.specs.Prelude.{◌≡◌, ◌≤◌, [], MatchResult, vec_len, vec_capacity};
+ghost use Rattle.clauses.specs.declared.refusals.Refusal.TheVariants.{OutOfMemory};
+ghost use Rattle.clauses.specs.Limits.{max_signals};
 ghost use Rattle.model.specs.Dockets.{open_answer};
-ghost use Rattle.plans.specs.PlanStates.{plan_of};
 ghost use Rattle.referee.specs.DocketStates.{OpenGives};
 
 use super::Docket;
 use books::ClauseBook;
 use clauses::Refusal;
 use clauses::limits::MAX_SIGNALS;
-use gates::GateKind;
+use gates::{GateKind, NodeRecord};
 use model::Standing;
 use plans::Plan;
 use plans::demands::{fits_in, plan_demand};
@@ -17,7 +18,7 @@ use std::alloc::Global;
 
 // Whether the plan is complete, the book empty, and there is room for the plan's clauses.
 fn may_open<G: GateKind, B: ClauseBook>(plan: &Plan<G>, book: &B) -> Result<(), Refusal>
-    ensures { result ≡ open_answer G.GateKind.kind (plan_of plan.now) (B.ClauseBook.meaning book.now) }
+    ensures { result ≡ open_answer G.GateKind.kind plan.now (B.ClauseBook.meaning book.now) }
 {
     if !plan.is_complete() {
         return Err(Refusal::OutOfPlace);
@@ -31,20 +32,28 @@ fn may_open<G: GateKind, B: ClauseBook>(plan: &Plan<G>, book: &B) -> Result<(), 
     Ok(())
 }
 
+// The memory of a docket: a copy of the plan, and room for all definitions.
+fn memory<G: GateKind>(heap: Global, plan: &Plan<G>) -> Result<(Plan<G>, Vec<NodeRecord>), Refusal>
+    ensures { MatchResult result
+        (λ parts. (parts.0 ≡ plan.now) × (parts.1.items ≡ []) × (vec_len parts.1 ≡ 0) × (max_signals ≤ vec_capacity parts.1))
+        (λ e. e ≡ OutOfMemory) }
+{
+    let kept = plan.copied(heap)?;
+    let definitions = Vec::with_capacity(heap, MAX_SIGNALS)?;
+    Ok((kept, definitions))
+}
+
 impl<G: GateKind, B: ClauseBook> Docket<G, B> {
     // Writes the plan's clauses into the book; refused, the book comes back as it was.
     pub fn open(heap: Global, plan: &Plan<G>, mut book: B) -> Result<Docket<G, B>, (Refusal, B)>
-        ensures { OpenGives G.GateKind.kind B.ClauseBook.meaning (plan_of plan.now) book result }
+        ensures { OpenGives G.GateKind.kind B.ClauseBook.meaning plan.now book result }
     {
         if let Err(refusal) = may_open(plan, &book) {
             return Err((refusal, book));
         }
-        let kept = match plan.copied(heap) {
-            Ok(kept) => kept,
+        let (kept, definitions) = match memory(heap, plan) {
+            Ok(parts) => parts,
             Err(refusal) => return Err((refusal, book)),
-        };
-        let Ok(definitions) = Vec::with_capacity(heap, MAX_SIGNALS) else {
-            return Err((Refusal::OutOfMemory, book));
         };
         write_plan(&mut book, plan);
         Ok(Docket {

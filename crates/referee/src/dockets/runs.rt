@@ -18,14 +18,8 @@ impl<G: GateKind, B: ClauseBook> Docket<G, B> {
         match call {
             Call::Define(signal, code, operands) => self.define(signal, code, operands),
             Call::Resolve(left, right) => self.resolve(left, right),
-            Call::Strike(number) => {
-                self.strike(number)?;
-                Ok(0)
-            }
-            Call::Settle(number) => {
-                self.settle(number)?;
-                Ok(0)
-            }
+            Call::Strike(number) => self.strike(number).map(|()| 0),
+            Call::Settle(number) => self.settle(number).map(|()| 0),
             Call::Show(setting) => self.show(setting),
         }
     }

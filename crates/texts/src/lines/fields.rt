@@ -1,10 +1,9 @@
 // The parts of a line, from the fields that are left of it.
 ghost use Rattle.texts.specs.Fields.{fields_behind};
 ghost use Rattle.texts.specs.LineParts.{Answers, LoneField, LoneNumber, NextNumber, NoMore};
-ghost use Rattle.texts.specs.Lines.{kind_of, letter_of};
+ghost use Rattle.texts.specs.Lines.{letter_of};
 ghost use Rattle.texts.specs.Readers.{rest_of};
 
-use super::PlanKind;
 use crate::{Reader, number};
 use clauses::Refusal;
 
@@ -14,17 +13,6 @@ pub fn field_letter(field: &[u8]) -> Result<char, Refusal>
 {
     match field {
         [letter] => Ok(*letter as char),
-        _ => Err(Refusal::BadLine),
-    }
-}
-
-// The kind of a plan by its letter.
-pub fn field_kind(field: &[u8]) -> Result<PlanKind, Refusal>
-    ensures { Answers result (kind_of (letter_of field.now)) }
-{
-    match field_letter(field)? {
-        't' => Ok(PlanKind::TwoInput),
-        'w' => Ok(PlanKind::Wide),
         _ => Err(Refusal::BadLine),
     }
 }
@@ -45,13 +33,14 @@ pub fn lone_field<'a>(reader: &mut Reader<'a>) -> Result<&'a [u8], Refusal>
 {
     let field = reader.next_field().ok_or(Refusal::BadLine)?;
     no_more(reader)?;
-    if field.text.len() == 0 {
+    if field.text.is_empty() {
         return Err(Refusal::BadLine);
     }
     Ok(field.text)
 }
 
 // The number that the next field spells.
+#[tactic(auto, using(crate::proofs::LineNumbers::next_number))]
 pub fn next_number(reader: &mut Reader<'_>) -> Result<u32, Refusal>
     ensures { NextNumber result (fields_behind (rest_of reader.old)) (fields_behind (rest_of reader.new)) }
 {
@@ -60,6 +49,7 @@ pub fn next_number(reader: &mut Reader<'_>) -> Result<u32, Refusal>
 }
 
 // The number that the one field spells which is left.
+#[tactic(auto, using(crate::proofs::LineNumbers::not_lone))]
 pub fn lone_number(reader: &mut Reader<'_>) -> Result<u32, Refusal>
     ensures { LoneNumber result (fields_behind (rest_of reader.old)) }
 {

@@ -8,36 +8,30 @@ ghost use Rattle.texts.specs.Readers.{rest_of};
 use super::Operands;
 use crate::{Reader, number};
 use clauses::Refusal;
+use clauses::few::Few;
 
 impl Operands {
     // The numbers that all fields spell which are left.
     pub fn read(reader: &mut Reader<'_>) -> Result<Operands, Refusal>
         ensures { AllOperands result (fields_behind (rest_of reader.old)) }
     {
-        let mut signals = [0u32; 8];
-        let mut count = 0u8;
+        let mut signals = Few::new();
         while let Some(field) = reader.next_field() {
-            if count == 8 {
+            if signals.len() == 8 {
                 return Err(Refusal::BadLine);
             }
-            signals[count as usize] = number(field.text)?;
-            count += 1;
+            signals.push(number(field.text)?);
         }
-        if count == 0 {
+        if signals.len() == 0 {
             return Err(Refusal::BadLine);
         }
-        Ok(Operands { count, signals })
+        Ok(Operands { signals })
     }
 
     // The operands as a list.
     pub fn as_slice(&self) -> &[u32]
         ensures { result.now ≡ operands_of self.now }
     {
-        let count = self.count as usize;
-        if count > 8 {
-            &self.signals
-        } else {
-            &self.signals[0..count]
-        }
+        self.signals.as_slice()
     }
 }

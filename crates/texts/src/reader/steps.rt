@@ -17,14 +17,11 @@ impl<'a> Reader<'a> {
     pub fn peek(&self) -> Option<char>
         ensures { result ≡ first (rest_of self.now) }
     {
-        if self.at < self.text.len() {
-            Some(self.text[self.at] as char)
-        } else {
-            None
-        }
+        self.rest().first().map(|byte| *byte as char)
     }
 
     // Goes past the next character, if one is left.
+    #[tactic(auto, using(crate::proofs::Parting::behind_drop))]
     pub fn skip(&mut self)
         ensures { rest_of self.new ≡ behind (rest_of self.old) }
     {

@@ -1,80 +1,76 @@
 // Writing the line of a verdict.
-ghost use Rattle.std.specs.Prelude.{◌≡◌, ◌+◌, ◌≤◌, ◌++◌, length, take, drop, decimal};
+ghost use Rattle.std.specs.Prelude.{◌≡◌, ◌+◌, ◌≤◌, ◌++◌, length, decimal};
 ghost use Rattle.clauses.specs.Buffers.{written_over};
-ghost use Rattle.verdicts.specs.Verdicts.{spaced, count_text, verdict_text};
+ghost use Rattle.clauses.specs.Few.{items_of};
+ghost use Rattle.verdicts.specs.Verdicts.{spaced, verdict_text};
 
 use super::Verdict;
+use clauses::buffers::copy_at;
+use clauses::few::Few;
 use model::Standing;
 
-// Writes `text` at `at`; answers where it ends.
-fn put_text(text: &[u8], out: &mut [u8], at: usize) -> usize
-    requires { at + length text.now ≤ length out.old }
-    ensures end { result ≡ at + length text.now }
-    ensures buffer { out.new ≡ take at out.old ++ text.now ++ drop result out.old }
+// Adds a text to the line.
+fn put_text(text: &[u8], line: &mut Few<u8, 32>)
+    requires { length (items_of line.old) + length text.now ≤ 32 }
+    ensures { items_of line.new ≡ items_of line.old ++ text.now }
 {
-    let end = at + text.len();
-    out[at..end].copy_from_slice(text);
-    end
-}
-
-// Writes the decimal digits of `number` at `at`, the last one after the others; answers where they end.
-fn put_digits(number: u16, out: &mut [u8], at: usize) -> usize
-    requires { at + length (decimal number) ≤ length out.old }
-    ensures end { result ≡ at + length (decimal number) }
-    ensures buffer { out.new ≡ take at out.old ++ decimal number ++ drop result out.old }
-{
-    let last = if number < 10 {
-        at
-    } else {
-        put_digits(number / 10, out, at)
-    };
-    out[last] = b'0' + (number % 10) as u8;
-    last + 1
-}
-
-// Writes a blank and a number at `at`; answers where the number ends.
-fn put_spaced(number: u16, out: &mut [u8], at: usize) -> usize
-    requires { at + 6 ≤ length out.old }
-    ensures within { result ≤ at + 6 }
-    ensures end { result ≡ at + length (spaced number) }
-    ensures buffer { out.new ≡ take at out.old ++ spaced number ++ drop result out.old }
-{
-    out[at] = b' ';
-    put_digits(number, out, at + 1)
-}
-
-// Writes at `at` how many switches are on, where a setting was shown; answers where that ends.
-fn put_count(standing: Standing, out: &mut [u8], at: usize) -> usize
-    requires { at + 6 ≤ length out.old }
-    ensures within { result ≤ at + 6 }
-    ensures end { result ≡ at + length (count_text standing) }
-    ensures buffer { out.new ≡ take at out.old ++ count_text standing ++ drop result out.old }
-{
-    match standing {
-        Standing::Open | Standing::CannotRun => at,
-        Standing::Runs(count) => put_spaced(count, out, at),
+    for byte in text {
+        line.push(*byte);
     }
 }
 
+// Adds the decimal digits of `number` to the line, the last one after the others.
+#[tactic(auto, using(crate::proofs::LineParts::length_step))]
+fn put_digits(number: u16, line: &mut Few<u8, 32>)
+    requires { length (items_of line.old) + length (decimal number) ≤ 32 }
+    ensures { items_of line.new ≡ items_of line.old ++ decimal number }
+{
+    if number >= 10 {
+        put_digits(number / 10, line);
+    }
+    line.push(b'0' + (number % 10) as u8);
+}
+
+// Adds a blank and a number to the line.
+fn put_spaced(number: u16, line: &mut Few<u8, 32>)
+    requires { length (items_of line.old) + 6 ≤ 32 }
+    ensures within { length (items_of line.new) ≤ length (items_of line.old) + 6 }
+    ensures line { items_of line.new ≡ items_of line.old ++ spaced number }
+{
+    line.push(b' ');
+    put_digits(number, line);
+}
+
 impl Verdict {
+    // The line, with byte 10 at its end.
+    #[tactic(auto, using(crate::proofs::LineParts::words_short, crate::proofs::LineParts::number_or_zero))]
+    fn line(self) -> Few<u8, 32>
+        ensures { items_of result ≡ verdict_text self }
+    {
+        let mut line = Few::new();
+        match self {
+            Verdict::Stands(standing) => {
+                put_text(standing.words().as_bytes(), &mut line);
+                if let Standing::Runs(count) = standing {
+                    put_spaced(count, &mut line);
+                }
+            }
+            Verdict::Refused(place, refusal) => {
+                put_text(b"refused", &mut line);
+                put_spaced(place, &mut line);
+                put_spaced(u16::from(refusal.number().unwrap_or(0)), &mut line);
+            }
+        }
+        line.push(b'\n');
+        line
+    }
+
     // Writes the line to the front of a buffer of at least 32 bytes; answers its length, and leaves the rest.
     pub fn write(self, out: &mut [u8]) -> usize
         requires { 32 ≤ length out.old }
         ensures count { result ≡ length (verdict_text self) }
         ensures buffer { out.new ≡ written_over (verdict_text self) out.old }
     {
-        let end = match self {
-            Verdict::Stands(standing) => {
-                let words = put_text(standing.words().as_bytes(), out, 0);
-                put_count(standing, out, words)
-            }
-            Verdict::Refused(line, refusal) => {
-                let words = put_text(b"refused", out, 0);
-                let place = put_spaced(line, out, words);
-                put_spaced(u16::from(refusal.number().unwrap_or(0)), out, place)
-            }
-        };
-        out[end] = b'\n';
-        end + 1
+        copy_at(self.line().as_slice(), out, 0)
     }
 }

@@ -1,6 +1,5 @@
 use Rattle.std.proofs.Common.{ap}
 use Rattle.books.specs.declared.cells.Cell.{Cell}
-use Rattle.books.specs.Chained.{cells_of}
 use Rattle.books.proofs.ChainedLinks.{chain_next}
 use Rattle.books.proofs.ChainedMoves.{moved, given_none, given_all}
 use Rattle.books.proofs.chained.give_back.Goals as goal
@@ -16,12 +15,12 @@ set-requires c = let n = chain_next _ _ c.loop-left.invariant.ends_a c.loop-left
 
 pub loop-left-preserved : goal.loop-left-preserved
 loop-left-preserved c =
-    (moved _ _ (cells_of c.set.new.self) _ _ _ _ _ c.requires.once c.requires.room c.loop-left-test.true c.loop-left.invariant c.set.ensures
+    (moved _ _ c.set.new.self _ _ _ _ _ c.requires.once c.requires.room c.loop-left-test.true c.loop-left.invariant c.set.ensures
     (ap (λ (x : Cell). x.next) c.get-left.ensures)).parted
 
 pub loop-left-smaller : goal.loop-left-smaller
 loop-left-smaller c =
-    (moved _ _ (cells_of c.set.new.self) _ _ _ _ _ c.requires.once c.requires.room c.loop-left-test.true c.loop-left.invariant c.set.ensures
+    (moved _ _ c.set.new.self _ _ _ _ _ c.requires.once c.requires.room c.loop-left-test.true c.loop-left.invariant c.set.ensures
     (ap (λ (x : Cell). x.next) c.get-left.ensures)).shorter
 
 pub returns : goal.returns

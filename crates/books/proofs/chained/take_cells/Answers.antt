@@ -2,7 +2,6 @@ use Rattle.std.proofs.Common.{ap, ◌∙◌, arith}
 use Rattle.std.specs.Slice.Iter.{iter_rest}
 use Rattle.std.specs.Iterator.Adapters.{rev_source}
 use Rattle.books.specs.declared.cells.Cell.{Cell}
-use Rattle.books.specs.Chained.{cells_of}
 use Rattle.books.proofs.ChainedLinks.{chain_short}
 use Rattle.books.proofs.ChainedMoves.{moved, taken_none, free_next, taken_more, taken_all}
 use Rattle.books.proofs.chained.take_cells.Goals as goal
@@ -26,9 +25,9 @@ pub loop-literal-preserved : goal.loop-literal-preserved
 loop-literal-preserved c =
     let n = free_next _ _ _ _ _ _ _ _ _ c.requires.enough c.loop-literal.invariant.0 c.loop-literal.invariant.1 c.in-Some.ensures.steps in
     let pos = n.pos in
-    let m = moved _ _ _ _ _ _ _ _ c.requires.once (chain_short (cells_of c.args.table.now) c.args.free) (λ z. omega arith) c.loop-literal.invariant.0 c.set.ensures
+    let m = moved _ _ _ _ _ _ _ _ c.requires.once (chain_short c.args.table.now c.args.free) (λ z. omega arith) c.loop-literal.invariant.0 c.set.ensures
     (ap (λ (x : Cell). x.next) c.get-free.ensures) in
-    (m.parted, taken_more (cells_of c.set.new.self) (cells_of c.loop-literal.table) _ _ _ _ _ _ c.loop-literal.invariant.1 c.in-Some.ensures.steps m.reads)
+    (m.parted, taken_more c.set.new.self c.loop-literal.table _ _ _ _ _ _ c.loop-literal.invariant.1 c.in-Some.ensures.steps m.reads)
 
 pub returns : goal.returns
 returns c = record { parted = c.loop-literal.invariant.0; holds = taken_all _ _ _ _ c.in-None.ensures.steps.0 c.loop-literal.invariant.1 }

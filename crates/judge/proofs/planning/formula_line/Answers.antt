@@ -1,5 +1,4 @@
 use Rattle.std.proofs.Common.{◌≡◌, sym, subst}
-use Rattle.plans.specs.PlanStates.{plan_of}
 use Rattle.texts.specs.declared.lines.PlanKind.{PlanKind}
 use Rattle.formulas.specs.Reading.{formula_answer}
 use Rattle.judge.specs.Judging.{formula_line}
@@ -10,9 +9,9 @@ use Rattle.judge.proofs.planning.formula_line.Goals as goal
 pub returns-in-TwoInput : goal.returns-in-TwoInput
 returns-in-TwoInput g c =
     let K = g.G.GateKind.kind in
-    let p = plan_of c.args.plan.now in
+    let p = c.args.plan.now in
     let is = lined_formula (formula_answer K p c.args.text.now) _ _ _ c.formula_of.ensures.answer c.formula_of.ensures.after in
     record {
-      becomes = subst (λ (k : PlanKind). becomes c.formula_of.result (plan_of c.formula_of.new.plan) ≡ formula_line K k p c.args.text.now) (sym c.in-TwoInput.is) is.0;
+      becomes = subst (λ (k : PlanKind). becomes c.formula_of.result c.formula_of.new.plan ≡ formula_line K k p c.args.text.now) (sym c.in-TwoInput.is) is.0;
       keeps = is.1;
     }

@@ -1,21 +1,18 @@
--- The clauses of the gates, and the root's where there is one.
-use Rattle.std.proofs.Common.{◌≤◌, arith}
-use Rattle.plans.proofs.PlanDemand.{few_signals, few_demanded, demand_with_root}
-use Rattle.plans.proofs.demands.plan_demand.Given as given
+-- The clauses of a plan are few, and all are counted.
+use Rattle.std.proofs.Common.{ℕ, ◌≤◌, length, ap, ◌∙◌, ap₂, arith}
+use Rattle.std.proofs.lemmas.List.{length-map}
+use Rattle.gates.specs.Nodes.{node_of}
+use Rattle.model.specs.Plans.{plan_clauses}
+use Rattle.plans.proofs.Counts.{plan_few}
+use Rattle.plans.proofs.Counting.{can_count, counted}
 use Rattle.plans.proofs.demands.plan_demand.Goals as goal
-use Rattle.plans.proofs.demands.plan_demand.Goals.{After-nodes_demand-demand}
 
-pub nodes_demand-demand-requires : goal.nodes_demand-demand-requires
-nodes_demand-demand-requires g c = omega (arith, few_signals c.args.plan.now _ _ c.switches.ensures c.gates.ensures)
+pub put_plan-requires : goal.put_plan-requires
+put_plan-requires g c =
+    let p = c.args.plan.now in
+    let gates : length p.gates ≤ 256 = omega (arith, length-map c.gates.result.now node_of, ap length c.gates.ensures.gates) in
+    let few = plan_few g.G.GateKind.kind g.met.G.GateKind.sized p gates in
+    can_count (plan_clauses g.G.GateKind.kind p) _ (omega arith) (omega arith)
 
-few : (g : given.Over) (c : goal.After-nodes_demand-demand g) → (c.nodes_demand-demand.result.numbers ≤ 8192) × (c.nodes_demand-demand.result.cells ≤ 147456)
-few g c = few_demanded c.args.plan.now _ _ c.switches.ensures c.gates.ensures g.G.GateKind.kind _ c.nodes_demand-demand.ensures g.met.G.GateKind.sized
-
-pub overflow_add-demand : goal.overflow_add-demand
-overflow_add-demand g c = omega (arith, few g (goal.at.overflow_add-demand g c).After-nodes_demand-demand)
-
-pub overflow_add-demand-then-is_complete : goal.overflow_add-demand-then-is_complete
-overflow_add-demand-then-is_complete g c = omega (arith, few g (goal.at.overflow_add-demand-then-is_complete g c).After-nodes_demand-demand)
-
-pub returns-then-is_complete : goal.returns-then-is_complete
-returns-then-is_complete g c = demand_with_root c.args.plan.now _ _ c.switches.ensures c.gates.ensures g.G.GateKind.kind _ c.nodes_demand-demand.ensures c.if-is_complete.ensures
+pub returns : goal.returns
+returns g c = counted (plan_clauses g.G.GateKind.kind c.args.plan.now) _ _ c.put_plan.ensures ∙ ap₂ (λ (n m : ℕ). record { numbers = n; cells = m }) (omega arith) (omega arith)

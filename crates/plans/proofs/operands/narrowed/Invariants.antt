@@ -1,5 +1,6 @@
-use Rattle.std.proofs.Common.{◌≡◌, length, take}
+use Rattle.std.proofs.Common.{◌≡◌, take}
+use Rattle.clauses.specs.Few.{items_of}
 use Rattle.plans.proofs.operands.narrowed.Given as goal
 
-abbrev pub invariant-loop-i : goal.invariant-loop-i
-invariant-loop-i l = (take l.i l.kept ≡ take l.i l.operands) × (length l.kept ≡ 8)
+abbrev pub invariant-loop-operand : goal.invariant-loop-operand
+invariant-loop-operand l = items_of l.kept ≡ take l.operand-index l.operands

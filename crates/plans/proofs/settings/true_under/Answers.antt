@@ -1,16 +1,13 @@
 -- The part for the switches gets the setting, and the part for all signals the values of the plan, whose root is read.
-use Rattle.std.proofs.Common.{◌≡◌, ℕ, ◌≤◌, Bool, false, List, ◌++◌, map, length, take, Some, None, vec_items, Option, sym, ap, ◌∙◌, ap₂, arith, rules}
+use Rattle.std.proofs.Common.{◌≡◌, ℕ, ◌≤◌, Bool, false, List, ◌++◌, map, length, take, Some, None, Option, ap, ◌∙◌, ap₂, arith, rules}
 use Rattle.std.proofs.lemmas.List.FromFn.{length-map-range_with_len}
-use Rattle.std.proofs.lemmas.List.{length-map, length-take, length-append, length-drop, take-take, take_at}
+use Rattle.std.proofs.lemmas.List.{length-take, take-take, take_at}
 use Rattle.std.proofs.lemmas.Slice.{overwrites}
 use Rattle.gates.specs.declared.records.NodeRecord.{NodeRecord}
 use Rattle.gates.specs.Kinds.{Kind}
-use Rattle.gates.specs.declared.kinds.GateKind.{Ghosts}
 use Rattle.gates.specs.Nodes.{node_of, value_at, values_of}
-use Rattle.model.specs.Plans.{Plan, signals, true_under, plan_values}
+use Rattle.model.specs.Plans.{Plan, true_under, plan_values}
 use Rattle.model.specs.Settings.{bit_at, setting_of}
-use Rattle.plans.specs.declared.plans.Plan.{Plan as Kept}
-use Rattle.plans.specs.PlanStates.{plan_of}
 use Rattle.plans.proofs.settings.true_under.Goals as goal
 
 root_value : (K : Kind) (p : Plan) (bytes : List ℕ) (root switches count part : ℕ) (gates : List NodeRecord) (unpacked behind evaluated rest : List Bool)
@@ -28,26 +25,8 @@ root_value K p bytes root switches count part gates unpacked behind evaluated re
     ap (λ vs. value_at vs root) values
     ∙ ap (λ (o : Option ℕ). elim o [ Some r ↦ value_at (plan_values K p (setting_of p.switches bytes)) r | None ↦ false ]) is_root
 
--- the sizes that a plan keeps leave room for the values of all its signals
-few_signals : {G : Type 0} {g : Ghosts G} (p : Kept G g) → signals (plan_of p) ≤ 512
-few_signals p = omega (arith, length-map (vec_items p.gates) node_of, p.sizes)
-
-pub slice_bounds-values-end-2 : goal.slice_bounds-values-end-2
-slice_bounds-values-end-2 g c = let few = few_signals c.args.plan.now in search (rules, overwrites)
-
-pub evaluate-requires : goal.evaluate-requires
-evaluate-requires g c =
-    let few = few_signals c.args.plan.now in
-    let gates : length c.gates.result.now ≡ length (plan_of c.args.plan.now).gates = sym (length-map c.gates.result.now node_of) ∙ ap length c.gates.ensures in
-    let set : length c.unpack.new.values ≡ c.switches-switches.result = search (rules, overwrites) in
-    simp (length-take, length-append, length-drop) (omega arith)
-
-pub slice_bounds-value_at-end : goal.slice_bounds-value_at-end
-slice_bounds-value_at-end g c = let few = few_signals c.args.plan.now in search (rules, overwrites)
-
 pub returns : goal.returns
 returns g c =
-    let few = few_signals c.args.plan.now in
     c.value_at.ensures
-    ∙ root_value g.G.GateKind.kind (plan_of c.args.plan.now) c.args.setting.now c.in-Some.root c.switches-switches.result _ _ c.gates.result.now c.unpack.new.values _ c.evaluate.new.values _
-    c.in-Some.ensures c.switches-switches.ensures c.gates.ensures (simp length-take (omega arith)) (omega arith) (search (rules, overwrites)) c.unpack.ensures c.evaluate.ensures
+    ∙ root_value g.G.GateKind.kind c.args.plan.now c.args.setting.now c.in-Some.root c.switches-switches.result _ _ c.gates.result.now c.unpack.new.values _ c.evaluate.new.values _
+    c.in-Some.ensures c.switches-switches.ensures.switches c.gates.ensures.gates (simp length-take (omega arith)) (omega arith) (search (rules, overwrites)) c.unpack.ensures c.evaluate.ensures

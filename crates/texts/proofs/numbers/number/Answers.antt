@@ -1,14 +1,14 @@
 -- What the tests rule out is no spelling of a number; what they leave is one.
-use Rattle.std.proofs.Common.{◌≡◌, ℕ, ◌+◌, ◌*◌, ◌^◌, ◌≤◌, length, get_or, decimal, sym, refl, inl, inr, pow-suc, add-one, arith}
+use Rattle.std.proofs.Common.{◌≡◌, ℕ, ◌+◌, ◌*◌, ◌^◌, ◌≤◌, length, get_or, decimal, sym, refl, ◌∙◌, inl, inr, pow-suc, add-one, arith}
 use Rattle.std.specs.Str.Parse.{digits_value}
 use Rattle.std.proofs.lemmas.List.{take_all}
 use Rattle.std.proofs.lemmas.Int.Digits.{digits_value_more, digits_more}
 use Rattle.std.proofs.lemmas.Str.Parse.{digit_at}
 use Rattle.std.proofs.lemmas.Fmt.{decimal-digits_value}
 use Rattle.texts.specs.Numbers.{max_number}
-use Rattle.texts.proofs.Decimals.{own, spelling, digit_value, number_of, not_number}
+use Rattle.texts.proofs.Decimals.{own, spelling, is_digit, no_digit, digit_value, number_of, not_number}
 use Rattle.texts.proofs.numbers.number.Goals as goal
-use Rattle.texts.proofs.numbers.number.Goals.{then-field-eq0-via-then-field-eq0, then-field-eq0-via-else-field-eq0+then-field-gt5, then-field-eq0-via-else-field-eq0+else-field-gt5+then-field-gt1, then-byte-lt48-via-then-byte-lt48, then-byte-lt48-via-else-byte-lt48+then-byte-gt57}
+use Rattle.texts.proofs.numbers.number.Goals.{then-field-eq0-via-then-field-eq0, then-field-eq0-via-else-field-eq0+then-field-gt5, then-field-eq0-via-else-field-eq0+else-field-gt5+then-field-gt1}
 
 pub returns-then-field-eq0 : goal.returns-then-field-eq0
 returns-then-field-eq0 c =
@@ -22,18 +22,20 @@ returns-then-field-eq0 c =
     ] in
     record { answer = sym (not_number _ none); exact = none }
 
-pub returns-then-byte-lt48 : goal.returns-then-byte-lt48
-returns-then-byte-lt48 c =
+pub returns-then-not-is_ascii_digit : goal.returns-then-not-is_ascii_digit
+returns-then-not-is_ascii_digit c =
     let none : (v : ℕ) → v ≤ max_number → c.args.field.now ≡ decimal v → ⊥ =
     λ v small e.
     let s = spelling _ v small e in
     let d = digit_at _ c.loop-byte.byte-index s.digits c.loop-byte-test.true in
-    elim c.then-byte-lt48.branch [ then-byte-lt48-via-then-byte-lt48 w ↦ omega arith | then-byte-lt48-via-else-byte-lt48+then-byte-gt57 w ↦ omega arith ] in
+    no_digit _ d.0 d.1 (sym c.is_ascii_digit.ensures.value ∙ c.if-not-is_ascii_digit.true) in
     record { answer = sym (not_number _ none); exact = none }
 
 pub loop-byte-preserved : goal.loop-byte-preserved
 loop-byte-preserved c =
-    let h = digit_value _ c.if-byte-lt48.false c.if-byte-gt57.false in
+    let b = get_or c.args.field.now c.loop-byte.byte-index 0 in
+    let d : (48 ≤ b) × (b ≤ 57) = is_digit b (sym c.is_ascii_digit.ensures.value ∙ c.if-not-is_ascii_digit.false) in
+    let h = digit_value b d.0 d.1 in
     let e = digits_value_more 10 _ _ c.loop-byte-test.true in
     let p : 10 ^ (c.loop-byte.byte-index + 1) ≡ 10 ^ c.loop-byte.byte-index * 10 = rw (add-one, pow-suc) refl in
     (omega arith, digits_more 10 _ _ c.loop-byte-test.true c.loop-byte.invariant.1 (omega arith), omega arith)

@@ -1,17 +1,23 @@
-use Rattle.std.proofs.Common.{◌≡◌, ℕ, ◌*◌, List, [], ◌∷◌, ◌++◌, take, drop, sym, ap, ◌∙◌, ap₂, arith}
-use Rattle.std.proofs.lemmas.List.{take_more_set}
-use Rattle.std.proofs.lemmas.List.FromFn.{map-range_with_len_more}
-use Rattle.verdicts.specs.Digits.{byte_of}
-use Rattle.verdicts.proofs.DigitBytes.{take_eight}
+-- The byte of eight digits more; there are at most 32.
+use Rattle.std.proofs.Common.{◌≡◌, [], ◌∷◌, length, min, ap, ◌∙◌, lit<, arith, append_assoc, length-append}
+use Rattle.std.specs.Slice.Iter.{chunks_rest}
+use Rattle.clauses.specs.Few.{items_of}
+use Rattle.verdicts.specs.Digits.{bytes_of}
+use Rattle.verdicts.proofs.DigitBytes.{eight_more, length_bytes}
 use Rattle.verdicts.proofs.digits.pack.Goals as goal
 
-pub loop-i-preserved : goal.loop-i-preserved
-loop-i-preserved c =
-    let i = c.loop-i.i in
-    let digits = c.args.digits.now in
-    let byte : ℕ → ℕ = λ k. byte_of (take 8 (drop (8 * k) digits)) in
-    let eight = take_eight c.min-end.result (8 * i) digits c.min-end.ensures (omega arith) in
-    let same : c.byte_of.result ≡ byte i = c.byte_of.ensures ∙ ap byte_of eight in
-    take_more_set c.loop-i.out i _ (omega arith)
-    ∙ ap₂ (λ (front : List ℕ) (b : ℕ). front ++ (b ∷ [])) c.loop-i.invariant same
-    ∙ sym (map-range_with_len_more byte 0 i i (omega arith))
+pub push-requires : goal.push-requires
+push-requires c =
+    let s = c.in-Some.ensures.steps.1 in
+    let size : length c.in-Some.eight.now ≡ min 8 (length (chunks_rest c.loop-eight.eight-iterator)) = rw c.loop-eight.invariant.0 at s.1 in
+    let one = ap length (eight_more c.in-Some.eight.now _ _ s.0 size s.2) in
+    let all = simp length-append at (ap length c.loop-eight.invariant.1) in
+    (lit< tt, omega (arith, one, all, length_bytes c.args.digits.now))
+
+pub loop-eight-preserved : goal.loop-eight-preserved
+loop-eight-preserved c =
+    let s = c.in-Some.ensures.steps.1 in
+    let size : length c.in-Some.eight.now ≡ min 8 (length (chunks_rest c.loop-eight.eight-iterator)) = rw c.loop-eight.invariant.0 at s.1 in
+    let one = eight_more c.in-Some.eight.now _ _ s.0 size s.2 in
+    let front = append_assoc (items_of c.loop-eight.packed) (c.byte_of.result ∷ []) (bytes_of (chunks_rest c.next.new.self)) in
+    (c.in-Some.ensures.steps.0 ∙ c.loop-eight.invariant.0, cc)

@@ -1,7 +1,9 @@
-use Rattle.std.proofs.Common.{◌≡◌, ◌*◌, map, take, drop}
-use Rattle.std.specs.List.{range_with_len}
-use Rattle.verdicts.specs.Digits.{byte_of}
+-- The bytes so far stand before those of the digits that are left.
+use Rattle.std.proofs.Common.{◌≡◌, ◌++◌}
+use Rattle.std.specs.Slice.Iter.{chunks_rest, chunks_size}
+use Rattle.clauses.specs.Few.{items_of}
+use Rattle.verdicts.specs.Digits.{bytes_of}
 use Rattle.verdicts.proofs.digits.pack.Given as goal
 
-abbrev pub invariant-loop-i : goal.invariant-loop-i
-invariant-loop-i l = take l.i l.out ≡ map (λ i. byte_of (take 8 (drop (8 * i) l.digits))) (range_with_len 0 l.i)
+abbrev pub invariant-loop-eight : goal.invariant-loop-eight
+invariant-loop-eight l = (chunks_size l.eight-iterator ≡ 8) × (items_of l.packed ++ bytes_of (chunks_rest l.eight-iterator) ≡ bytes_of l.digits)

@@ -1,34 +1,50 @@
-use Rattle.std.proofs.Common.{Ok, sym, ap, ◌∙◌, arith}
-use Rattle.books.proofs.BookAnswers.{write_granted}
-use Rattle.books.proofs.PackedLayout.{laid_out, short_push}
-use Rattle.books.proofs.PackedBooks.{sized, meaning_of, given_is, free_numbers_is, free_cells_is, written_laid, written_means}
+use Rattle.std.proofs.Common.{◌≤◌, Some, Ok, sym, ap, ◌∙◌, length, arith, rules}
+use Rattle.clauses.specs.Limits.{max_literals}
+use Rattle.books.specs.Book.{slot_size}
+use Rattle.books.proofs.BookAnswers.{write_granted, room_there, write_refused}
+use Rattle.books.proofs.BookEntries.{each_push}
+use Rattle.books.proofs.PackedLayout.{laid_out}
+use Rattle.books.proofs.PackedBooks.{packed_sized, meaning_of, given_is, free_numbers_is, free_cells_is, written_laid, written_means}
 use Rattle.books.proofs.packed.PackedBookClauseBook.write.Goals as goal
 
-pub append-requires : goal.append-requires
-append-requires c = omega (arith, free_cells_is c.args.self.now)
+pub returns-in_err-check_room : goal.returns-in_err-check_room
+returns-in_err-check_room c =
+    let m = write_refused (meaning_of c.args.self.now) c.args.literals.now _ (rw (c.free_numbers.ensures, c.free_cells.ensures) at c.in_err-check_room.ensures) in
+    search rules
 
-pub push_reserved-requires : goal.push_reserved-requires
-push_reserved-requires c = omega (arith, free_numbers_is c.args.self.now)
+pub unwrap-requires : goal.unwrap-requires
+unwrap-requires c =
+    let r = room_there c.free_numbers.result c.free_cells.result (length c.args.literals.now) c.in_ok-check_room.ensures in
+    c.extend_from_slice.ensures.succeeds (omega (arith, free_cells_is c.args.self.now))
+
+pub give-requires : goal.give-requires
+give-requires c =
+    let r = room_there c.free_numbers.result c.free_cells.result (length c.args.literals.now) c.in_ok-check_room.ensures in
+    omega (arith, free_numbers_is c.args.self.now)
 
 pub invariant_of-self : goal.invariant_of-self
 invariant_of-self c =
+    let r = room_there c.free_numbers.result c.free_cells.result (length c.args.literals.now) c.in_ok-check_room.ensures in
     let b = c.args.self.now in
+    let len = rw c.unwrap.ensures at c.extend_from_slice.ensures.len in
     let n = free_numbers_is b in
     let l = free_cells_is b in
-    let lays = written_laid b c.args.literals.now _ _ _ _ c.append.ensures.items c.push_reserved.ensures.items (omega arith) (omega arith) in
-    let laid = laid_out _ _ _ lays (short_push (meaning_of b).slots c.args.literals.now b.laid.1 (omega arith)) in
+    let items = rw c.unwrap.ensures at c.extend_from_slice.ensures.items in
+    let lays = written_laid b c.args.literals.now _ _ _ _ items c.give.ensures.slots (omega arith) (omega arith) in
+    let laid = laid_out _ _ _ lays (each_push (λ o. slot_size o ≤ max_literals) (meaning_of b).slots (Some c.args.literals.now) (omega arith) b.laid.1 (omega arith)) in
     record {
       laid = laid;
-      gives = (omega arith, omega arith, omega arith);
       keeps = (omega arith, omega arith, omega arith);
-      within = sized _ _ b.numbers b.cells laid (omega arith) (omega arith) (omega arith) (omega arith);
+      within = packed_sized _ _ _ b.cells laid (omega arith) (omega arith) (omega arith) (omega arith);
     }
 
 pub returns : goal.returns
 returns c =
+    let r = room_there c.free_numbers.result c.free_cells.result (length c.args.literals.now) c.in_ok-check_room.ensures in
     let b = c.args.self.now in
-    let lays = written_laid b c.args.literals.now _ _ _ _ c.append.ensures.items c.push_reserved.ensures.items (omega arith) (omega arith) in
+    let items = rw c.unwrap.ensures at c.extend_from_slice.ensures.items in
+    let lays = written_laid b c.args.literals.now _ _ _ _ items c.give.ensures.slots (omega arith) (omega arith) in
     record {
       answer = ap Ok (omega (arith, given_is b)) ∙ sym (write_granted (meaning_of b) c.args.literals.now (omega arith) (omega arith) (omega arith));
-      after = written_means b c.args.literals.now _ _ lays;
+      after = written_means b c.args.literals.now _ _ _ c.give.ensures.most lays;
     }

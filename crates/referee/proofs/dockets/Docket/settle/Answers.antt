@@ -1,8 +1,7 @@
 -- What settling comes to is what the call answers.
-use Rattle.std.proofs.Common.{◌∙◌}
 use Rattle.std.proofs.lemmas.Result.{err_from_is_err_and}
 use Rattle.books.specs.Book.{clause_at}
-use Rattle.referee.proofs.EventCases.{settle_refused, settle_granted}
+use Rattle.referee.proofs.EventCases.{settle_refused}
 use Rattle.referee.proofs.dockets.Docket.settle.Goals as goal
 
 pub returns-in_err-meet : goal.returns-in_err-meet
@@ -12,8 +11,3 @@ returns-in_err-meet g c =
       answer = settle_refused c.args.self.now.standing (clause_at (g.B.ClauseBook.meaning c.args.self.now.book) c.args.number) _ _ c.settling-event.ensures c.in_err-meet.ensures.answer;
       after = c.in_err-meet.ensures.after;
     }
-
-pub returns : goal.returns
-returns g c =
-    let s = settle_granted c.args.self.now.standing (clause_at (g.B.ClauseBook.meaning c.args.self.now.book) c.args.number) _ _ c.settling-event.ensures c.in_ok-meet.ensures.answer in
-    record { answer = s.0; after = c.in_ok-meet.ensures.after ∙ simp s.1 }

@@ -1,36 +1,21 @@
-use Rattle.std.proofs.Common.{arith}
-use Rattle.verdicts.proofs.LineParts.{length_one, length_step, placed_digit, placed_last}
+-- A digit behind the others, if there are any.
+use Rattle.std.proofs.Common.{refl, lit<, arith, append_assoc, length-append}
+use Rattle.verdicts.proofs.LineParts.{length_one, length_step, last_digit, only_digit}
 use Rattle.verdicts.proofs.verdict_line.writing.+put_digits.Goals as goal
-use Rattle.verdicts.proofs.verdict_line.writing.+put_digits.Goals.{then-number-lt10, else-number-lt10}
+use Rattle.verdicts.proofs.verdict_line.writing.+put_digits.Goals.{then-number-ge10, else-number-ge10}
 
-pub put_digits-last-requires : goal.put_digits-last-requires
-put_digits-last-requires t c = (omega arith, omega (arith, length_step c.args.number (omega arith) c.if-number-lt10.false))
-
-pub bounds-out-last : goal.bounds-out-last
-bounds-out-last t c =
-    elim c.if-number-lt10.branch [
-      | then-number-lt10 w ↦ omega (arith, w.last-is, length_one c.args.number w.if-number-lt10.true)
-      | else-number-lt10 w ↦ omega (arith, w.last-is, length_step c.args.number (omega arith) w.if-number-lt10.false)
-    ]
-
-pub overflow_add-result : goal.overflow_add-result
-overflow_add-result t c =
-    elim c.if-number-lt10.branch [
-      | then-number-lt10 w ↦ omega (arith, w.last-is, length_one c.args.number w.if-number-lt10.true)
-      | else-number-lt10 w ↦ omega (arith, w.last-is, length_step c.args.number (omega arith) w.if-number-lt10.false)
-    ]
+pub push-requires : goal.push-requires
+push-requires t c = (
+  lit< tt,
+  elim c.if-number-ge10.branch [
+    | then-number-ge10 w ↦ simp (w.line-is, w.put_digits.ensures, length-append) (omega (arith, length_step c.args.number (omega arith) w.if-number-ge10.true))
+    | else-number-ge10 w ↦ simp w.line-is (omega (arith, length_one c.args.number w.if-number-ge10.false))
+  ],
+)
 
 pub returns : goal.returns
 returns t c =
-    elim c.if-number-lt10.branch [
-      | then-number-lt10 w ↦
-          let one = length_one c.args.number w.if-number-lt10.true in
-          simp (w.last-is, w.out-is) record { end = omega arith; buffer = placed_digit c.args.number c.args.at c.args.out.now w.if-number-lt10.true (omega arith) }
-      | else-number-lt10 w ↦
-          let step = length_step c.args.number (omega arith) w.if-number-lt10.false in
-          let d = w.put_digits-last.ensures in
-          simp (w.last-is, w.out-is) record {
-            end = omega arith;
-            buffer = placed_last c.args.number c.args.at _ c.args.out.now _ (omega arith) w.if-number-lt10.false (omega arith) (omega arith) d.end d.buffer;
-          }
+    elim c.if-number-ge10.branch [
+      | then-number-ge10 w ↦ rw (c.push.ensures, w.line-is, w.put_digits.ensures, last_digit c.args.number (omega arith) w.if-number-ge10.true, append_assoc) refl
+      | else-number-ge10 w ↦ rw (c.push.ensures, w.line-is, only_digit c.args.number w.if-number-ge10.false) refl
     ]

@@ -1,16 +1,10 @@
-use Rattle.std.proofs.Common.{ℕ, decimal, arith, length-set}
-use Rattle.verdicts.proofs.LineParts.{length_short, placed_after}
+-- A number has at most five digits.
+use Rattle.std.proofs.Common.{arith, length-append}
+use Rattle.verdicts.proofs.LineParts.{decimal_short}
 use Rattle.verdicts.proofs.verdict_line.writing.put_spaced.Goals as goal
 
 pub put_digits-requires : goal.put_digits-requires
-put_digits-requires c = simp length-set (omega (arith, length_short c.args.number (omega arith)))
+put_digits-requires c = simp (c.push.ensures, length-append) (omega (arith, decimal_short c.args.number (omega arith)))
 
-pub returns : goal.returns
-returns c =
-    let short = length_short c.args.number (omega arith) in
-    let d = c.put_digits.ensures in
-    record {
-      within = omega arith;
-      end = omega arith;
-      buffer = placed_after 32 c.args.at _ (decimal c.args.number) c.args.out.now _ (omega arith) d.end (omega (arith, length-set {A = ℕ})) d.buffer;
-    }
+pub returns-clause-within : goal.returns-clause-within
+returns-clause-within c = simp (c.put_digits.ensures, c.push.ensures, length-append) (omega (arith, decimal_short c.args.number (omega arith)))
