@@ -1,7 +1,7 @@
 -- A buffer that is written from its front on.
-use Rattle.std.proofs.Common.{◌≡◌, ℕ, ◌+◌, ◌<◌, ◌≤◌, List, [], ◌∷◌, ◌++◌, length, take, drop, set, sym, ap, ◌∙◌, arith}
+use Rattle.std.proofs.Common.{◌≡◌, ℕ, ◌+◌, ◌≤◌, List, [], ◌++◌, length, take, drop, sym, ap, ◌∙◌}
 use Rattle.clauses.specs.Buffers.{written_over}
-use Rattle.std.proofs.lemmas.List.{append-nil, append_assoc, length-append, length-take-le, take-append-drop, take_more_set, drop-set-lt, drop-drop, take_at, drop_at}
+use Rattle.std.proofs.lemmas.List.{append-nil, append_assoc, length-append, length-take-le, take-append-drop, drop-drop, take_at, drop_at}
 
 -- the first n places of `out` hold `whole` up to `rest`, and the others are as they were in `start`
 pub record Begun (whole start rest : List ℕ) (n : ℕ) (out : List ℕ) : Type 0 where
@@ -10,15 +10,6 @@ pub record Begun (whole start rest : List ℕ) (n : ℕ) (out : List ℕ) : Type
 
 drop_on : (k n : ℕ) (xs ys : List ℕ) → drop n xs ≡ drop n ys → drop (n + k) xs ≡ drop (n + k) ys
 drop_on k n xs ys e = sym (drop-drop k n xs) ∙ ap (drop k) e ∙ drop-drop k n ys
-
--- nothing is written
-pub put_none : {whole start rest rest' out : List ℕ} {n : ℕ} → rest ≡ rest' → Begun whole start rest n out → Begun whole start rest' n out
-put_none e b = rw e at b
-
--- one element is written
-pub put_one : {whole start rest rest' out : List ℕ} {x n : ℕ} → n < length out → rest ≡ x ∷ rest' → Begun whole start rest n out → Begun whole start rest' (n + 1) (set out n x)
-put_one {start = start} {out = out} {x} {n} h e b =
-    record { front = rw (take_more_set out n x h, append_assoc, ← e) b.front; behind = drop-set-lt (n + 1) out n x (omega arith) ∙ drop_on 1 n out start b.behind }
 
 -- a list is written
 pub put_all : {whole start rest out out' : List ℕ} {n n' : ℕ} (xs rest' : List ℕ) → n ≤ length out → n' ≡ n + length xs → out' ≡ take n out ++ xs ++ drop n' out → rest ≡ xs ++ rest' → Begun whole start rest n out → Begun whole start rest' n' out'
