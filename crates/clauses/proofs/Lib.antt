@@ -5,3 +5,4 @@ pub mod Merges
 pub mod Clashes
 pub mod JoiningLaw
 pub mod Writing
+pub mod Steps
