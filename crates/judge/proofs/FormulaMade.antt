@@ -1,5 +1,5 @@
 -- A formula makes a plan that is well made and complete.
-use Rattle.std.proofs.Common.{◌≡◌, ℕ, zero, suc, Bool, true, false, cond, not, ◌||◌, T, eqb, ltb, List, [], ◌∷◌, length, take, Some, None, Ok, Err, Option, Result, refl, subst, arith}
+use Rattle.std.proofs.Common.{◌≡◌, ℕ, zero, suc, Bool, true, false, cond, not, ◌||◌, T, eqb, ltb, List, [], ◌∷◌, length, take, Some, None, Ok, Err, Option, Result, refl, subst}
 use Rattle.clauses.specs.declared.refusals.Refusal.{Refusal}
 use Rattle.clauses.specs.declared.refusals.Refusal.TheVariants.{LongText, BadLine, OutOfPlace, NoSignal, TooDeep}
 use Rattle.clauses.specs.Limits.{max_text, max_nesting}

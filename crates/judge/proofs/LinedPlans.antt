@@ -1,5 +1,5 @@
 -- What a call answers and leaves is what its line comes to.
-use Rattle.std.proofs.Common.{◌≡◌, ℕ, Some, None, Ok, Err, Option, Result, MatchResult, IsOkAnd, refl, ap, arith}
+use Rattle.std.proofs.Common.{◌≡◌, ℕ, Some, None, Ok, Err, Option, Result, MatchResult, IsOkAnd, refl, ap}
 use Rattle.clauses.specs.declared.refusals.Refusal.{Refusal}
 use Rattle.clauses.specs.declared.refusals.Refusal.TheVariants.{OutOfMemory}
 use Rattle.clauses.specs.Refusals.{number_of}

@@ -1,5 +1,5 @@
 -- A verdict that stands comes from a plan that the lines made, a granted open, and calls that the lines made.
-use Rattle.std.proofs.Common.{◌≡◌, ℕ, ◌+◌, List, [], ◌∷◌, Some, None, Ok, Err, Option, Result, refl, ap, ◌∙◌, arith}
+use Rattle.std.proofs.Common.{◌≡◌, ℕ, ◌+◌, List, [], ◌∷◌, Some, None, Ok, Err, Option, Result, refl, ap, ◌∙◌}
 use Rattle.clauses.specs.declared.refusals.Refusal.{Refusal}
 use Rattle.gates.specs.Kinds.{Kind}
 use Rattle.books.specs.Book.{Book}
