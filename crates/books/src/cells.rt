@@ -6,7 +6,7 @@ ghost use Rattle.books.specs.Chained.{cell_at, with_cell, unused, ends, literals
 use std::alloc::{AllocError, Global};
 use std::marker::Model;
 
-// A literal, and the number of the next cell: 0 at the end of a chain.
+// A literal, and the number of the next cell: 0 at the end of a chain, and no Option, since a cell is to be two plain numbers.
 #[derive(Clone, Copy)]
 pub struct Cell {
     pub literal: u32,

@@ -85,6 +85,7 @@ pub fn pattern_count_of<G: GateKind>(node: &NodeRecord) -> u8
 }
 
 // Fills the front of `out` with the instance of a node's pattern; answers its length, or nothing where it is left out.
+// A node and the signal that it is are no struct: the caller counts the signal up, and no fact ties the two.
 pub fn fill_clause<G: GateKind>(
     node: &NodeRecord,
     output: u16,

@@ -32,7 +32,8 @@ impl SlotLiteral {
 }
 
 // A kind of gate; whoever adds one shows the laws.
-// Codes are numbers here: the check makes no proof of an impl whose functions take a type that has the trait as a bound
+// Operators are codes and no enum: a plan's lines give them by number, and of two operands the number is the row of truth values.
+// Codes are plain numbers: the check makes no proof of an impl whose functions take a type that has the trait as a bound
 // on the impl's own type, so a type of known codes could stand only above the trait, and would repeat its functions.
 pub trait GateKind {
     // How many operator codes the kind has, counted from 0.

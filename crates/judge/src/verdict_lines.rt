@@ -1,39 +1,14 @@
 // The verdict line on a text, with a new book of the largest sizes.
-ghost use Rattle.std.specs.Prelude.{◌≡◌, Some};
+ghost use Rattle.std.specs.Prelude.{Some};
 ghost use Rattle.judge.specs.VerdictLines.{LineSays, words_of};
 
 use crate::judging::judge;
 use books::NewBook;
 use books::clause_book::{MAX_CELLS, MAX_NUMBERS};
+use clauses::few::Few;
 use std::alloc::Global;
 use std::error::Error;
 use std::fmt;
-use std::marker::Model;
-
-// The bytes of a line, which stand at the front of a buffer.
-#[derive(Drop)]
-pub struct VerdictLine {
-    buffer: [u8; 32],
-    length: usize,
-}
-
-impl Model for VerdictLine {
-    ghost use Rattle.std.specs.Prelude.{ℕ, ◌≤◌, List, take};
-
-    ghost Value = { List ℕ };
-
-    ghost view = { λ l. take l.length l.buffer };
-
-    ghost invariant = { λ l. l.length ≤ 32 };
-}
-
-impl VerdictLine {
-    pub fn as_bytes(&self) -> &[u8]
-        ensures { result.now ≡ self.now }
-    {
-        &self.buffer[..self.length]
-    }
-}
 
 // What there was no memory for.
 #[derive(Clone, Copy, PartialEq, Eq, Debug)]
@@ -56,7 +31,7 @@ impl fmt::Display for NoMemory {
 impl Error for NoMemory {}
 
 // The line of the verdict on a text with a new book.
-pub fn verdict_line<B: NewBook + Drop>(heap: Global, text: &[u8]) -> Result<VerdictLine, NoMemory>
+pub fn verdict_line<B: NewBook + Drop>(heap: Global, text: &[u8]) -> Result<Few<u8, 32>, NoMemory>
     ensures { LineSays text.now result }
 {
     let Ok(book) = B::new(heap, MAX_NUMBERS, MAX_CELLS) else {
@@ -66,5 +41,7 @@ pub fn verdict_line<B: NewBook + Drop>(heap: Global, text: &[u8]) -> Result<Verd
     let Ok((length, _)) = judge(heap, text, book, &mut buffer) else {
         return Err(NoMemory::ForPlan);
     };
-    Ok(VerdictLine { buffer, length })
+    let mut line = Few::new();
+    line.extend_from_slice(&buffer[..length]);
+    Ok(line)
 }

@@ -14,6 +14,6 @@ fn main(rt: HostRuntime) -> anyhow::Result<()> {
     let most = MAX_TEXT as u64 + 1;
     rt.stdin().take(most).read_to_end(&mut text)?;
     let line = verdict_line::<ChainedBook>(heap, text.as_slice())?;
-    rt.stdout().write_all(line.as_bytes())?;
+    rt.stdout().write_all(line.as_slice())?;
     Ok(())
 }

@@ -24,8 +24,8 @@ fn show(rt: &HostRuntime, name: &str, text: &[u8]) -> anyhow::Result<()> {
     let first = verdict_line::<PackedBook>(heap, text)?;
     let second = verdict_line::<ChainedBook>(heap, text)?;
     print!(rt; "{name}: ")?;
-    if first.as_bytes() == second.as_bytes() {
-        rt.stdout().write_all(first.as_bytes())?;
+    if first.as_slice() == second.as_slice() {
+        rt.stdout().write_all(first.as_slice())?;
     } else {
         println!(rt; "the books differ")?;
     }

@@ -73,7 +73,7 @@ fn row_of(count: u8, number: u16) -> Few<bool, 8>
     values
 }
 
-// A truth value as a digit.
+// A truth value as a digit: the two characters are plainer to read than a sum with the code of '0'.
 fn digit(value: bool) -> char
     ensures { result ≡ digit value }
 {

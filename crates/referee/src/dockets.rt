@@ -26,7 +26,7 @@ pub enum Event {
     Shown(u16),
 }
 
-// A call as data; operands and the packed setting are borrowed.
+// A call as data, so that a list of calls can be made and checked; operands and the packed setting are borrowed.
 #[derive(Clone, Copy)]
 pub enum Call<'a> {
     // a signal, an operator code and operands

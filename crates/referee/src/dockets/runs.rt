@@ -10,7 +10,7 @@ use clauses::Refusal;
 use gates::GateKind;
 
 impl<G: GateKind, B: ClauseBook> Docket<G, B> {
-    // Makes one call; one with no answer of its own answers 0.
+    // Makes one call; one with no answer of its own answers 0, so that all have one type of answer.
     pub fn make(&mut self, call: Call) -> Result<u32, Refusal>
         ensures answer { result ≡ answer G.GateKind.kind (state_of B.ClauseBook.meaning self.old) (call_of call.entry) }
         ensures after { state_of B.ClauseBook.meaning self.new ≡ granted result (changed G.GateKind.kind (state_of B.ClauseBook.meaning self.old) (call_of call.entry)) (state_of B.ClauseBook.meaning self.old) }
