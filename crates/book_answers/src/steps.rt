@@ -1,5 +1,6 @@
 // Writes, questions and strikes on a book, and what it answered.
 use books::ClauseBook;
+use clauses::few::Few;
 use clauses::{Answer, Refusal};
 use std::alloc::{AllocError, Global};
 use std::fmt::Write;
@@ -62,11 +63,11 @@ const STEPS: [Step; 42] = [
     Step::Literal(6, 1),
 ];
 
-// The literals first, first + 1, .., so many as a buffer takes.
-fn literals(count: usize, first: u32) -> [u32; 65] {
-    let mut clause = [0; 65];
-    for (place, literal) in clause[..count.min(65)].iter_mut().enumerate() {
-        *literal = first.wrapping_add(place as u32);
+// The literals first, first + 1, .., at most one more than a clause may have.
+fn literals(count: usize, first: u32) -> Few<u32, 65> {
+    let mut clause = Few::new();
+    for place in 0..count.min(65) {
+        clause.push(first.wrapping_add(place as u32));
     }
     clause
 }
@@ -74,9 +75,8 @@ fn literals(count: usize, first: u32) -> [u32; 65] {
 // Writes clauses until one is refused: says how many were granted, and why the last was not.
 fn fill<B: ClauseBook>(book: &mut B, count: usize) -> (u32, Option<Refusal>) {
     let clause = literals(count, 7);
-    let length = count.min(65);
     for granted in 0..2049 {
-        if let Err(refusal) = book.write(&clause[0..length]) {
+        if let Err(refusal) = book.write(clause.as_slice()) {
             return (granted, Some(refusal));
         }
     }
@@ -92,9 +92,8 @@ fn put_step<B: ClauseBook>(text: &mut String, book: &mut B, step: Step) -> Resul
     match step {
         Step::Write(count, first) => {
             let clause = literals(count, first);
-            let length = count.min(65);
             write!(text, "write {count} literals: ")?;
-            put_answer(text, book.write(&clause[0..length]))
+            put_answer(text, book.write(clause.as_slice()))
         }
         Step::Fill(count) => put_fill(text, book, count),
         Step::Length(number) => {

@@ -69,6 +69,6 @@ pub fn transcript<G: GateKind, B: ClauseBook>(
     let book = docket.close();
     match put {
         Ok(()) => Ok((text, book)),
-        Err(_) => Err((Refusal::OutOfMemory, book)),
+        Err(error) => Err((Refusal::from(error), book)),
     }
 }
