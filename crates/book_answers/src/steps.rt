@@ -5,6 +5,7 @@ use clauses::{Answer, Refusal};
 use std::alloc::{AllocError, Global};
 use std::fmt::Write;
 
+// A step as data, so that steps stand in a table.
 #[derive(Clone, Copy)]
 enum Step {
     // A clause of so many literals, which count up from the second number.

@@ -4,7 +4,8 @@ ghost use Rattle.std.specs.Prelude.{◌≡◌, ◌+◌, ◌≤◌, ◌<◌, [], 
 use crate::buffers::copy_at;
 use std::alloc::AllocError;
 
-// The first `count` of the places are the items; the others mean nothing.
+// The first `count` of the places are the items; the others mean nothing. Contracts say `items_of` it, and it has no model:
+// what can be copied would have to give its fields back, and the items have not what the other places hold.
 pub struct Few<T: Copy, const N: usize> {
     count: usize,
     places: [T; N],

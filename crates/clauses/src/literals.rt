@@ -16,7 +16,7 @@ pub fn negated(literal: u32) -> bool
     literal % 2 == 1
 }
 
-// The literal of a signal, plain or negated.
+// The literal of a signal, plain or negated: a signal and a flag, since a literal is no more than these two.
 pub fn literal_of(subject: u16, minus: bool) -> u32
     ensures { result ≡ literal_of subject minus }
 {

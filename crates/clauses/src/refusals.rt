@@ -56,7 +56,7 @@ pub enum Refusal {
 }
 
 impl Refusal {
-    // The number that a verdict line gives; none for want of memory.
+    // The number that a verdict line gives; none for want of memory, so this is no conversion.
     pub fn number(self) -> Option<u8>
         ensures { result ≡ number_of self }
     {

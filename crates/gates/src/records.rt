@@ -4,7 +4,7 @@ ghost use Rattle.gates.specs.Nodes.{node_of};
 
 use clauses::few::Few;
 
-// A code and the signals that are its operands, at most eight.
+// A code and the signals that are its operands, at most eight. Contracts say `node_of` it, and it has no model, as `Few` has none.
 #[derive(Clone, Copy)]
 pub struct NodeRecord {
     pub code: u8,

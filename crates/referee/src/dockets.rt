@@ -40,7 +40,8 @@ pub enum Call<'a> {
     Show(&'a [u8]),
 }
 
-// Memory for all definitions is taken when a docket is opened.
+// Memory for all definitions is taken when a docket is opened. Contracts say `state_of` it, and it has no model: `close` and
+// `book` promise the very book, and a state has only the book's meaning.
 pub struct Docket<G: GateKind, B: ClauseBook> {
     plan: Plan<G>,
     definitions: Vec<NodeRecord>,

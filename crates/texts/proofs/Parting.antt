@@ -77,6 +77,10 @@ line_left (b ∷ bs) e h =
       | inr f ↦ let z = rw f at l in rw f (uncut b bs (omega arith))
     ]
 
+-- behind the last byte there are no lines
+pub no_lines_behind : (bs : List ℕ) → lines_of (drop (length bs) bs) ≡ []
+no_lines_behind bs = rw (drop_all (length bs) bs (omega arith)) refl
+
 -- a field goes to the next blank or to the end
 pub field_at : (bs : List ℕ) (n : ℕ) → n ≡ unwrap_or (position (λ b. eqb b 32) bs) (length bs) → fields_of bs ≡ take n bs ∷ fields_behind (drop n bs)
 field_at bs n e = rw (e, found_or_end 32 bs) (field_cut bs)

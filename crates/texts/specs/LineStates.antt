@@ -12,8 +12,8 @@ use Rattle.texts.specs.Lines.{Form}
 
 -- the lines that a text still has, by what was handed out and what is left
 abbrev pub HandsOut : Option (Result (Bor (List ℕ)) Refusal) → List (Option (List ℕ)) → List (Option (List ℕ)) → Type 0
-HandsOut None before after = before ≡ []
-HandsOut (Some (Err e)) before after = (e ≡ BadLine) × (before ≡ None ∷ [])
+HandsOut None before after = (before ≡ []) × (after ≡ [])
+HandsOut (Some (Err e)) before after = (e ≡ BadLine) × (before ≡ None ∷ []) × (after ≡ [])
 HandsOut (Some (Ok line)) before after = before ≡ Some line.now ∷ after
 
 abbrev pub operands_of : Operands → List ℕ

@@ -23,16 +23,11 @@ impl<'a> NumberedLines<'a> {
         }
     }
 
-    // The next line, if one is left.
+    // The next line, if one is left. Lines are counted here, since the count goes on over the loops of plan and steps.
     pub fn take(&mut self) -> Option<Result<Line<'a>, Refusal>>
         ensures { Takes result self.old self.new }
     {
-        let line = self.reader.next_line();
-        if !matches!(line, Some(Ok(_))) {
-            // Nothing is left behind the end, or behind a line that is not ended.
-            self.reader = Reader::new(b"");
-        }
-        let line = line?;
+        let line = self.reader.next_line()?;
         self.number += 1;
         Some(line.and_then(|line| read_line(line)))
     }

@@ -10,7 +10,7 @@ use super::{Line, Operands};
 use crate::Reader;
 use clauses::Refusal;
 
-// The form of a line, given without its byte 10.
+// The form of a line, given without its byte 10. Letters are matched as characters, one arm for each line of the format.
 pub fn read_line<'a>(line: &'a [u8]) -> Result<Line<'a>, Refusal>
     ensures { formed result ≡ line_form line.now }
 {

@@ -17,7 +17,7 @@ impl<'a> Reader<'a> {
     }
 
     // The next line without its byte 10, if one is left; one that byte 10 does not end is refused.
-    #[tactic(auto, using(crate::proofs::Parting::line_at, crate::proofs::Parting::line_left))]
+    #[tactic(auto, using(crate::proofs::Parting::line_at, crate::proofs::Parting::line_left, crate::proofs::Parting::no_lines_behind))]
     pub fn next_line(&mut self) -> Option<Result<&'a [u8], Refusal>>
         ensures { HandsOut result (lines_of (rest_of self.old)) (lines_of (rest_of self.new)) }
     {
@@ -25,6 +25,7 @@ impl<'a> Reader<'a> {
             return None;
         }
         let Some(count) = self.find(b'\n') else {
+            self.at = self.text.len();
             return Some(Err(Refusal::BadLine));
         };
         let line = self.take(count);
