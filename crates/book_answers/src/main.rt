@@ -29,12 +29,12 @@ fn making<B: NewBook + Drop>(heap: Global, numbers: u32, cells: u32) -> &'static
 fn run(rt: &HostRuntime) -> anyhow::Result<()> {
     let heap = rt.alloc();
     for (numbers, cells) in SIZES {
-        let Ok(first) = answers::<PackedBook>(heap, numbers, cells) else {
-            return Err(anyhow!("no packed book"));
-        };
-        let Ok(second) = answers::<ChainedBook>(heap, numbers, cells) else {
-            return Err(anyhow!("no chained book"));
-        };
+        let first = answers::<PackedBook>(heap, numbers, cells).map_err(|_| anyhow!(
+            "no packed book"
+        ))?;
+        let second = answers::<ChainedBook>(heap, numbers, cells).map_err(|_| anyhow!(
+            "no chained book"
+        ))?;
         println!(rt; "a book of {numbers} numbers and {cells} cells")?;
         print!(rt; "{first}")?;
         if first == second {

@@ -13,7 +13,7 @@ pub struct Cell {
     pub next: u32,
 }
 
-// Cells under the numbers from 1 on.
+// Cells under the numbers from 1 on. The numbers are plain ones, not `NonZeroU32`: the next of a cell may be 0.
 #[derive(Drop)]
 pub struct CellTable {
     cells: Vec<Cell>,

@@ -10,7 +10,7 @@ use clauses::Refusal;
 use std::alloc::Global;
 
 // Each number whose clause stands has the first cell of the clause.
-// The free cells are a chain too, from `free` on, of `spare` cells.
+// The free cells are a chain too, from `free` on, of `spare` cells; `free` is 0 where there are none, as a cell's next is.
 #[derive(Drop)]
 pub struct ChainedBook {
     table: CellTable,

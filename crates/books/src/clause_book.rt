@@ -75,7 +75,8 @@ pub trait ClauseBook {
 
 // A book that can be made of two sizes; a book that is made otherwise needs no such instance.
 pub trait NewBook: ClauseBook {
-    // An empty book that gives up to `numbers` numbers and keeps up to `cells` literals.
+    // An empty book that gives up to `numbers` numbers and keeps up to `cells` literals: two numbers and no struct, which callers
+    // would only make to take it apart.
     fn new(heap: Global, numbers: u32, cells: u32) -> Result<Self, Refusal>
         ensures { Made Self.meaning numbers cells result };
 }

@@ -10,7 +10,7 @@ use crate::spans::Span;
 use clauses::Refusal;
 use std::alloc::Global;
 
-// Each number whose clause stands has its span.
+// Each number whose clause stands has its span, a part of the one list of literals: all memory is taken when a book is made.
 #[derive(Drop)]
 pub struct PackedBook {
     literals: Vec<u32>,

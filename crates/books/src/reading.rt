@@ -6,8 +6,7 @@ ghost use Rattle.books.specs.Promise.{length_answer, read_buffer};
 use crate::clause_book::ClauseBook;
 use clauses::Refusal;
 
-// Reads the clause under a number to the front of `out`, a caller's buffer since no memory may be taken, and answers how many
-// literals it has.
+// Reads the clause under a number to the front of `out`, a slice as clauses are everywhere, and answers how many literals it has.
 pub fn read_clause<B: ClauseBook>(book: &B, number: u32, out: &mut [u32]) -> Result<usize, Refusal>
     requires { 64 ≤ length out.old }
     ensures answer { result ≡ length_answer (clause_at (B.ClauseBook.meaning book.now) number) }

@@ -85,8 +85,8 @@ pub fn pivot(left: &[u32], right: &[u32]) -> Result<u32, Refusal>
     found.ok_or(Refusal::NoClash)
 }
 
-// Writes the literals of both lists that do not clash to the front of `out`, each once; answers how many. The buffer is
-// the caller's, since no memory may be taken here.
+// Writes the literals of both lists that do not clash to the front of `out`, each once; answers how many. The
+// buffer is a caller's slice, as clauses are everywhere.
 pub fn merge(left: &[u32], right: &[u32], out: &mut [u32]) -> usize
     requires { length left.now + length right.now ≤ length out.old }
     ensures count { result ≡ length (merged left.now right.now) }

@@ -64,17 +64,11 @@ fn planned<G: GateKind>(
     gates: &[(u32, &[u32])],
     root: u32,
 ) -> anyhow::Result<Plan<G>> {
-    let Ok(mut plan) = Plan::<G>::begin(rt.alloc(), 2) else {
-        return Err(anyhow!("no plan"));
-    };
+    let mut plan = Plan::<G>::begin(rt.alloc(), 2).map_err(|_| anyhow!("no plan"))?;
     for (code, operands) in gates {
-        if plan.gate(*code, operands).is_err() {
-            return Err(anyhow!("no gate"));
-        }
+        plan.gate(*code, operands).map_err(|_| anyhow!("no gate"))?;
     }
-    if plan.root(root).is_err() {
-        return Err(anyhow!("no root"));
-    }
+    plan.root(root).map_err(|_| anyhow!("no root"))?;
     Ok(plan)
 }
 
@@ -98,12 +92,12 @@ fn follow<G: GateKind>(
     plan: &Plan<G>,
     calls: &[Call],
 ) -> anyhow::Result<()> {
-    let Ok(first) = answers::<G, PackedBook>(rt.alloc(), plan, calls) else {
-        return Err(anyhow!("no docket on the packed book"));
-    };
-    let Ok(second) = answers::<G, ChainedBook>(rt.alloc(), plan, calls) else {
-        return Err(anyhow!("no docket on the chained book"));
-    };
+    let first = answers::<G, PackedBook>(rt.alloc(), plan, calls).map_err(|_| anyhow!(
+        "no docket on the packed book"
+    ))?;
+    let second = answers::<G, ChainedBook>(rt.alloc(), plan, calls).map_err(|_| anyhow!(
+        "no docket on the chained book"
+    ))?;
     print!(rt; "{name}\n{first}")?;
     if first == second {
         println!(rt; "both books answer the same")?;

@@ -9,6 +9,7 @@ ghost use Rattle.formulas.specs.Trees.{sign_byte};
 
 use crate::signs::Sign;
 use clauses::Refusal;
+use plans::operands::is_signal;
 use texts::{Reader, number};
 
 // Reads a sign.
@@ -43,7 +44,7 @@ pub fn read_switch(reader: &mut Reader, switches: u16) -> Result<u32, Refusal>
     ensures { (p : Plan) → p.switches ≡ switches → outcome result (rest_of reader.new) p ≡ read_switch (rest_of reader.old) p }
 {
     let signal = number(reader.digits())?;
-    if signal < 1 || signal > switches as u32 {
+    if !is_signal(switches, signal) {
         return Err(Refusal::NoSignal);
     }
     Ok(signal)

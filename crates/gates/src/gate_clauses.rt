@@ -38,7 +38,7 @@ fn place_of(literal: u32, clause: &[u32]) -> usize
 }
 
 // Puts a literal into its place among the first `count` of a clause, once; answers how many there are then. The clause is
-// the front of a caller's buffer, since no memory may be taken here.
+// the front of a caller's slice, as clauses are everywhere.
 fn insert(literal: u32, clause: &mut [u32], count: usize) -> usize
     requires { count < length clause.old }
     ensures count { result ≡ length (insert literal (take count clause.old)) }
@@ -85,7 +85,8 @@ pub fn pattern_count_of<G: GateKind>(node: &NodeRecord) -> u8
 }
 
 // Fills the front of `out` with the instance of a node's pattern; answers its length, or nothing where it is left out.
-// A node and the signal that it is are no struct: the caller counts the signal up, and no fact ties the two.
+// A node and the signal that it is are no struct: the caller counts the signal up, and no fact ties the two. `out` is a slice
+// and a length is answered, since clauses go on as slices.
 pub fn fill_clause<G: GateKind>(
     node: &NodeRecord,
     output: u16,

@@ -27,7 +27,7 @@ fn turned_down<B: ClauseBook>(
 {
     match refusal.number() {
         Some(_) => Ok((lines.refused(refusal), book)),
-        None => Err((Refusal::OutOfMemory, book)),
+        None => Err((refusal, book)),
     }
 }
 
@@ -49,7 +49,8 @@ fn open_lines<G: GateKind, B: ClauseBook>(
     }
 }
 
-// Begins a plan, and reads its lines and those behind it.
+// Begins a plan, and reads its lines and those behind it. The kind's name goes beside its type: a trait that gives the name
+// would be one more thing that a kind owes, for one line of the format.
 fn begin_lines<G: GateKind, B: ClauseBook>(
     heap: Global,
     kind: PlanKind,

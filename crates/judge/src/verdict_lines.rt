@@ -34,13 +34,9 @@ impl Error for NoMemory {}
 pub fn verdict_line<B: NewBook + Drop>(heap: Global, text: &[u8]) -> Result<Few<u8, 32>, NoMemory>
     ensures { LineSays text.now result }
 {
-    let Ok(book) = B::new(heap, MAX_NUMBERS, MAX_CELLS) else {
-        return Err(NoMemory::ForBook);
-    };
+    let book = B::new(heap, MAX_NUMBERS, MAX_CELLS).map_err(|_| NoMemory::ForBook)?;
     let mut buffer = [0; 32];
-    let Ok((length, _)) = judge(heap, text, book, &mut buffer) else {
-        return Err(NoMemory::ForPlan);
-    };
+    let (length, _) = judge(heap, text, book, &mut buffer).map_err(|_| NoMemory::ForPlan)?;
     let mut line = Few::new();
     line.extend_from_slice(&buffer[..length]);
     Ok(line)

@@ -6,7 +6,8 @@ use clauses::limits::MAX_TEXT;
 use judge::verdict_line;
 use std::io::{Read, Write};
 
-// The other judge program has the same lines with its own book: of a function for both, which reads and writes a program's own input and output, no contract would say more.
+// The other judge program has these lines with its own book. A public function for both is no plainer: it would owe a contract,
+// and none can speak of standard input and output.
 fn main(rt: HostRuntime) -> anyhow::Result<()> {
     let heap = rt.alloc();
     let mut text = Vec::new(heap);

@@ -12,6 +12,7 @@ pub enum Part {
     Doubled(u32),
 }
 
+// The number is formatted apart: `write!` into bytes would answer an io::Error.
 fn put_defines(
     text: &mut Vec<u8>,
     heap: Global,

@@ -18,6 +18,7 @@ fn slot_name(names: &[char], slot: Slot) -> char
 }
 
 // A name, behind a sign if the literal is negated.
+// The names go along with the text, and no fact ties the two.
 fn put_literal(text: &mut String, names: &[char], literal: SlotLiteral) -> Result<(), AllocError>
     ensures { Appends result (string_bytes text.old) (string_bytes text.new) (literal_text names.now literal) }
 {

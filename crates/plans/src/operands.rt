@@ -35,7 +35,8 @@ fn narrowed(signals: u16, operands: &[u32]) -> Few<u16, 8>
     kept
 }
 
-// The record of a code on operands among the first signals.
+// The record of a code on operands among the first signals. The two come apart, as lines and calls give them, and are together
+// in the record.
 pub fn node_record<G: GateKind>(
     signals: u16,
     code: u32,

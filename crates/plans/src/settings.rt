@@ -60,7 +60,7 @@ fn true_under<G: GateKind>(plan: &Plan<G>, setting: &[u8]) -> bool
     let Some(root) = plan.root_signal() else {
         return false;
     };
-    // All that a plan can have: no memory may be taken here.
+    // As many as a plan can have: values are evaluated over slices, and no memory may be taken here.
     let mut values = [false; MAX_PLAN_SIGNALS];
     let switches = plan.switches() as usize;
     let signals = plan.signals() as usize;

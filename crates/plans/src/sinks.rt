@@ -30,7 +30,7 @@ pub fn put_node<G: GateKind, S: ClauseSink>(sink: &mut S, node: &NodeRecord, out
     requires { CanPutAll S.ClauseSink.can_put S.ClauseSink.put_gives sink.old (clauses_of G.GateKind.kind output (node_of node.now)) }
     ensures { FoldsTo S.ClauseSink.put_gives sink.old (clauses_of G.GateKind.kind output (node_of node.now)) sink.new }
 {
-    // A buffer and a length: no memory may be taken here, and a clause goes on as a slice.
+    // A buffer and a length: a clause is filled into a slice and goes on as one.
     let mut clause = [0; MAX_INSTANCE];
     for index in 0..pattern_count_of::<G>(node) {
         if let Some(length) = fill_clause::<G>(node, output, index, &mut clause) {

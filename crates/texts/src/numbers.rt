@@ -15,7 +15,8 @@ pub fn number(field: &[u8]) -> Result<u32, Refusal>
     if field.len() == 0 || field.len() > 5 || (field[0] == b'0' && field.len() > 1) {
         return Err(Refusal::BadLine);
     }
-    // Not by `from_utf8` and `parse`: a text of 32 KB then takes 480,000 instructions more, past the limit in docs/BENCHMARKS.md.
+    // Not by `parse`: it takes a sign and leading zeros too, so as many tests would stand before it, and a text of 32 KB would take
+    // 480,000 instructions more.
     let mut value = 0u32;
     for byte in field {
         if !byte.is_ascii_digit() {

@@ -32,6 +32,7 @@ impl<G: GateKind, B: ClauseBook> Docket<G, B> {
         ensures after { state_of B.ClauseBook.meaning self.new ≡ granted result (changed G.GateKind.kind (state_of B.ClauseBook.meaning self.old) (Resolve left right)) (state_of B.ClauseBook.meaning self.old) }
     {
         self.meet(Ok(Event::Step))?;
+        // A local buffer and a length: the joined clause goes to the book as a slice.
         let mut joined = [0; 2 * MAX_LITERALS];
         let count = resolvent(&self.book, left, right, &mut joined)?;
         self.book.write(&joined[0..count])

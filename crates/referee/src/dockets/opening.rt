@@ -44,7 +44,8 @@ fn memory<G: GateKind>(heap: Global, plan: &Plan<G>) -> Result<(Plan<G>, Vec<Nod
 }
 
 impl<G: GateKind, B: ClauseBook> Docket<G, B> {
-    // Writes the plan's clauses into the book; refused, the book comes back as it was.
+    // Writes the plan's clauses into the book; refused, the book comes back as it was. It goes out with the refusal, so there is
+    // no `?`.
     pub fn open(heap: Global, plan: &Plan<G>, mut book: B) -> Result<Docket<G, B>, (Refusal, B)>
         ensures { OpenGives G.GateKind.kind B.ClauseBook.meaning plan.now book result }
     {

@@ -26,8 +26,8 @@ impl<G: GateKind, B: ClauseBook> Docket<G, B> {
         self.plan.signals() + self.definitions.len() as u16
     }
 
-    // Reads the clause under a number to the front of `out`, a buffer of the caller's since no memory may be taken, and answers
-    // how many literals it has.
+    // Reads the clause under a number to the front of `out`, the caller's slice as in `read_clause`, and answers how many literals
+    // it has.
     pub fn clause(&self, number: u32, out: &mut [u32; 64]) -> Result<usize, Refusal>
         ensures answer { result ≡ length_answer (clause_at (B.ClauseBook.meaning self.now.book) number) }
         ensures buffer { out.new ≡ read_buffer (clause_at (B.ClauseBook.meaning self.now.book) number) out.old }

@@ -19,7 +19,7 @@ pub(crate) fn resolvent<B: ClauseBook>(
     ensures answer { taken result out.new ≡ resolvent_of (clause_at (B.ClauseBook.meaning book.now) left) (clause_at (B.ClauseBook.meaning book.now) right) }
     ensures within { Within result (length out.new) }
 {
-    // Buffers and lengths: a resolve may take no memory.
+    // Local buffers and lengths: both clauses are read into slices and joined as slices.
     let mut lefts = [0; MAX_LITERALS];
     let mut rights = [0; MAX_LITERALS];
     let left_count = read_clause(book, left, &mut lefts)?;

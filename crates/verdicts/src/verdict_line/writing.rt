@@ -9,7 +9,8 @@ use clauses::buffers::copy_at;
 use clauses::few::Few;
 use model::Standing;
 
-// Adds the decimal digits of `number` to the line, the last one after the others.
+// Adds the decimal digits of `number` to the line, the last one after the others. Not by `write!`, which would answer a Result
+// for a line that has room by its contract.
 #[tactic(auto, using(crate::proofs::LineParts::length_step))]
 fn put_digits(number: u16, line: &mut Few<u8, 32>)
     requires { length (items_of line.old) + length (decimal number) ≤ 32 }
