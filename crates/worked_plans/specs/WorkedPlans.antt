@@ -1,26 +1,126 @@
--- Worked plans: texts with the sizes of the book and the verdict line that they come to.
-use Rattle.std.specs.Prelude.{◌≡◌, ℕ, List, [], ◌∷◌, ◌++◌, codes}
-use Rattle.std.specs.List.{AllByRecursion}
-use Rattle.books.specs.Book.{empty}
+-- Worked plans: texts, the sizes of a new book, and what judging the text with it comes to.
+use Rattle.std.specs.Prelude.{◌≡◌, ℕ, cond, List, [], ◌∷◌, ◌++◌, Some, None, Option, codes, decimal}
+use Rattle.std.specs.List.{AllByRecursion, range_with_len}
+use Rattle.clauses.specs.Literals.{signal, negated}
+use Rattle.books.specs.Book.{Book, empty, given, clause_at}
+use Rattle.books.specs.Promise.{max_numbers, max_cells}
 use Rattle.verdicts.specs.Verdicts.{verdict_text}
 use Rattle.judge.specs.Judging.{judged}
 
--- a text, the numbers and cells of a new book, and the verdict line
+-- a literal and a blank; a minus stands before a negated one
+abbrev pub literal_text : ℕ → List ℕ
+literal_text l = cond (negated l) (codes "-") [] ++ (decimal (signal l) ++ codes " ")
+
+abbrev pub literals_text : List ℕ → List ℕ
+literals_text [] = []
+literals_text (l ∷ ls) = literal_text l ++ literals_text ls
+
+-- what stands under a number
+abbrev pub slot_text : Option (List ℕ) → List ℕ
+slot_text None = codes "struck | "
+slot_text (Some c) = literals_text c ++ codes "| "
+
+abbrev pub slots_text : Book → List ℕ → List ℕ
+slots_text b [] = []
+slots_text b (k ∷ ks) = slot_text (clause_at b k) ++ slots_text b ks
+
+-- what stands under the numbers 1, 2, .. that the book has given
+abbrev pub book_text : Book → List ℕ
+book_text b = slots_text b (range_with_len 1 (given b))
+
+-- a text, the numbers and cells of a new book, the verdict line, and the book after it
 pub record Row : Type 0 where
   pub text : List ℕ
   pub numbers : ℕ
   pub cells : ℕ
   pub line : List ℕ
+  pub book : List ℕ
 
--- the row's text comes to the row's line
+-- the text judged with the book gives the line and leaves the book
 abbrev pub RowHolds : Row → Type 0
-RowHolds r = verdict_text (judged (empty r.numbers r.cells) r.text).0 ≡ r.line
+RowHolds r =
+    (verdict_text (judged (empty r.numbers r.cells) r.text).0 ≡ r.line)
+    × (book_text (judged (empty r.numbers r.cells) r.text).1 ≡ r.book)
 
-abbrev pub row : List ℕ → ℕ → ℕ → List ℕ → Row
-row text numbers cells line = record { text = text; numbers = numbers; cells = cells; line = line }
+abbrev pub row : List ℕ → ℕ → ℕ → List ℕ → List ℕ → Row
+row text numbers cells line book = record { text = text; numbers = numbers; cells = cells; line = line; book = book }
 
+-- a book of the largest sizes
+abbrev pub in_large_book : List ℕ → List ℕ → List ℕ → Row
+in_large_book text line book = row text max_numbers max_cells line book
+
+-- if the heater is on, the cooler valve is shut; and the heater is on and the valve is not shut
+abbrev pub warm_oil : List ℕ
+warm_oil = codes "p t 2\nf ((1>2)&(1&-2))\n"
+
+-- its twelve clauses
+abbrev pub its_clauses : List ℕ
+its_clauses = codes "1 3 | -2 3 | -1 2 -3 | 2 4 | -2 -4 | 1 -5 | 4 -5 | -1 -4 5 | 3 -6 | 5 -6 | -3 -5 6 | 6 | "
+
+-- they without the first
+abbrev pub first_struck : List ℕ
+first_struck = codes "struck | -2 3 | -1 2 -3 | 2 4 | -2 -4 | 1 -5 | 4 -5 | -1 -4 5 | 3 -6 | 5 -6 | -3 -5 6 | 6 | "
+
+-- if switch 1 is on, switch 2 is; and its clauses
+abbrev pub if_then : List ℕ
+if_then = codes "p t 2\nf (1>2)\n"
+
+abbrev pub if_then_clauses : List ℕ
+if_then_clauses = codes "1 3 | -2 3 | -1 2 -3 | 3 | "
+
+-- both switches alike; and its clauses
+abbrev pub alike : List ℕ
+alike = codes "p t 2\ng 9 1 2\nr 3\n"
+
+abbrev pub alike_clauses : List ℕ
+alike_clauses = codes "-1 2 -3 | 1 -2 -3 | 1 2 3 | -1 -2 3 | 3 | "
+
+-- a refutation of the plan of warm oil
+abbrev pub refutation_rows : List Row
+refutation_rows =
+    in_large_book warm_oil (codes "open\n") its_clauses
+    ∷ in_large_book (warm_oil ++ codes "u 12 9\nu 12 10\nu 14 6\nu 14 7\nu 16 5\nu 13 3\nu 18 15\nu 19 17\ne 20\n") (codes "cannot run\n") (its_clauses ++ codes "3 | 5 | 1 | 4 | -2 | -1 2 | 2 | | ")
+    ∷ []
+
+-- the plan of warm oil needs 12 numbers and 26 cells; a strike gives cells back
+abbrev pub room_rows : List Row
+room_rows =
+    row warm_oil 12 26 (codes "open\n") its_clauses
+    ∷ row warm_oil 11 6144 (codes "refused 2 15\n") []
+    ∷ row warm_oil 2048 25 (codes "refused 2 15\n") []
+    ∷ row (warm_oil ++ codes "u 12 9\n") 20 27 (codes "open\n") (its_clauses ++ codes "3 | ")
+    ∷ row (warm_oil ++ codes "u 12 9\nu 12 10\n") 20 27 (codes "refused 4 15\n") (its_clauses ++ codes "3 | ")
+    ∷ row (warm_oil ++ codes "u 12 9\nx 1\nu 12 10\n") 20 27 (codes "open\n") (first_struck ++ codes "3 | 5 | ")
+    ∷ []
+
+-- a definition has the next signal, over signals in use
+abbrev pub definition_rows : List Row
+definition_rows =
+    in_large_book (warm_oil ++ codes "d 7 1 1 2\n") (codes "open\n") (its_clauses ++ codes "1 -7 | 2 -7 | -1 -2 7 | ")
+    ∷ in_large_book (warm_oil ++ codes "d 8 1 1 2\n") (codes "refused 3 9\n") its_clauses
+    ∷ in_large_book (warm_oil ++ codes "d 7 1 1 7\n") (codes "refused 3 8\n") its_clauses
+    ∷ []
+
+-- a setting is shown
+abbrev pub setting_rows : List Row
+setting_rows =
+    in_large_book (if_then ++ codes "v 01\n") (codes "runs 1\n") if_then_clauses
+    ∷ in_large_book (if_then ++ codes "v 11\n") (codes "runs 2\n") if_then_clauses
+    ∷ in_large_book (if_then ++ codes "v 10\n") (codes "refused 3 18\n") if_then_clauses
+    ∷ []
+
+-- a gate over one signal twice, of whose clauses one is left out; and clauses that clash twice, or once
+abbrev pub gate_rows : List Row
+gate_rows =
+    in_large_book (codes "p t 1\ng 13 1 1\nr 2\n") (codes "open\n") (codes "1 2 | -1 2 | 2 | ")
+    ∷ in_large_book (alike ++ codes "u 1 2\n") (codes "refused 4 13\n") alike_clauses
+    ∷ in_large_book (alike ++ codes "u 5 1\n") (codes "open\n") (alike_clauses ++ codes "-1 2 | ")
+    ∷ []
+
+-- the table
 abbrev pub rows : List Row
-rows = row (codes "p t 1\nr 1\n") 2048 6144 (codes "open\n") ∷ []
+rows = refutation_rows ++ (room_rows ++ (definition_rows ++ (setting_rows ++ gate_rows)))
 
+-- every row holds
 abbrev pub EveryRowHolds : Type 0
 EveryRowHolds = AllByRecursion RowHolds rows
