@@ -1,7 +1,9 @@
 -- Worked plans: texts, the sizes of a new book, and what judging the text with it comes to.
-use Rattle.std.specs.Prelude.{◌≡◌, ℕ, cond, List, [], ◌∷◌, ◌++◌, Some, None, Option, codes, decimal}
+use Rattle.std.specs.Prelude.{◌≡◌, ℕ, cond, List, [], ◌∷◌, ◌++◌, Some, None, Ok, Err, Option, Result, codes, decimal}
 use Rattle.std.specs.List.{AllByRecursion, range_with_len}
 use Rattle.clauses.specs.Literals.{signal, negated}
+use Rattle.clauses.specs.declared.few.Few.{Few}
+use Rattle.clauses.specs.Few.{items_of}
 use Rattle.books.specs.Book.{Book, empty, given, clause_at}
 use Rattle.books.specs.Promise.{max_numbers, max_cells}
 use Rattle.verdicts.specs.Verdicts.{verdict_text}
@@ -120,6 +122,15 @@ gate_rows =
 -- the table
 abbrev pub rows : List Row
 rows = refutation_rows ++ (room_rows ++ (definition_rows ++ (setting_rows ++ gate_rows)))
+
+-- the row's text and sizes
+abbrev pub inputs : Row → List ℕ × ℕ × ℕ
+inputs r = (r.text, r.numbers, r.cells)
+
+-- the line of the verdict on a text with a new book of these sizes; of an error nothing is said
+abbrev pub LineIs : {E : Type 0} → List ℕ → ℕ → ℕ → Result (Few ℕ 32) E → Type 0
+LineIs text numbers cells (Ok line) = items_of line ≡ verdict_text (judged (empty numbers cells) text).0
+LineIs text numbers cells (Err e) = Unit {0}
 
 -- every row holds
 abbrev pub EveryRowHolds : Type 0

@@ -1,6 +1,8 @@
 // Judges the worked plans with both clause books, and prints each one's name and verdict line.
 #![tactic(auto)]
 
+ghost use Rattle.worked_plans.specs.WorkedPlans.{LineIs};
+
 mod statement;
 mod table;
 
@@ -10,7 +12,7 @@ use clauses::few::Few;
 use judge::judge;
 use std::alloc::Global;
 use std::io::Write;
-use table::PLANS;
+use table::worked_plans;
 
 // The line that a new book of these sizes gives.
 fn line_of<B: NewBook + Drop>(
@@ -18,7 +20,9 @@ fn line_of<B: NewBook + Drop>(
     text: &[u8],
     numbers: u32,
     cells: u32,
-) -> anyhow::Result<Few<u8, 32>> {
+) -> anyhow::Result<Few<u8, 32>>
+    ensures { LineIs text.now numbers cells result }
+{
     let book = B::new(heap, numbers, cells).map_err(|_| anyhow!("no book"))?;
     let mut buffer = [0; 32];
     let (length, _) = judge(heap, text, book, &mut buffer).map_err(|_| anyhow!("no plan"))?;
@@ -42,7 +46,7 @@ fn show(rt: &HostRuntime, name: &str, text: &[u8], numbers: u32, cells: u32) -> 
 }
 
 fn main(rt: HostRuntime) -> anyhow::Result<()> {
-    for (name, text, numbers, cells) in &PLANS {
+    for (name, text, numbers, cells) in worked_plans() {
         show(&rt, name, text, *numbers, *cells)?;
     }
     Ok(())

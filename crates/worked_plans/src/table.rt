@@ -1,6 +1,15 @@
 // The worked plans: names, texts, and the numbers and cells of the book.
+ghost use Rattle.std.specs.Prelude.{◌≡◌, map};
+ghost use Rattle.worked_plans.specs.WorkedPlans.{rows, inputs};
 
-pub static PLANS: [(&str, &[u8], u32, u32); 17] = [
+// The texts and sizes are those of the rows, in order.
+pub fn worked_plans() -> &'static [(&'static str, &'static [u8], u32, u32)]
+    ensures { map (λ p. (p.1.now, p.2, p.3)) result.now ≡ map inputs rows }
+{
+    &PLANS
+}
+
+static PLANS: [(&str, &[u8], u32, u32); 17] = [
     ("warm oil", b"p t 2\nf ((1>2)&(1&-2))\n", 2048, 6144),
     (
         "warm oil refuted",
