@@ -1,1 +1,2 @@
+pub mod BookText
 pub mod WorkedPlans

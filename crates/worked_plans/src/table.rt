@@ -9,11 +9,59 @@ pub fn worked_plans() -> &'static [(&'static str, &'static [u8], u32, u32)]
     &PLANS
 }
 
-static PLANS: [(&str, &[u8], u32, u32); 17] = [
+static PLANS: [(&str, &[u8], u32, u32); 25] = [
     ("warm oil", b"p t 2\nf ((1>2)&(1&-2))\n", 2048, 6144),
     (
         "warm oil refuted",
         b"p t 2\nf ((1>2)&(1&-2))\nu 12 9\nu 12 10\nu 14 6\nu 14 7\nu 16 5\nu 13 3\nu 18 15\nu 19 17\ne 20\n",
+        2048,
+        6144,
+    ),
+    (
+        "all the resolves",
+        b"p t 2\nf ((1>2)&(1&-2))\nu 12 9\nu 12 10\nu 14 6\nu 14 7\nu 16 5\nu 13 3\nu 18 15\nu 19 17\n",
+        2048,
+        6144,
+    ),
+    (
+        "settled by another clause",
+        b"p t 2\nf ((1>2)&(1&-2))\nu 12 9\nu 12 10\nu 14 6\nu 14 7\nu 16 5\nu 13 3\nu 18 15\nu 19 17\ne 19\n",
+        2048,
+        6144,
+    ),
+    (
+        "a strike behind the verdict",
+        b"p t 2\nf ((1>2)&(1&-2))\nu 12 9\nu 12 10\nu 14 6\nu 14 7\nu 16 5\nu 13 3\nu 18 15\nu 19 17\ne 20\nx 1\n",
+        2048,
+        6144,
+    ),
+    (
+        "the last line not ended",
+        b"p t 2\nf ((1>2)&(1&-2))\nu 12 9\nu 12 10\nu 14 6\nu 14 7\nu 16 5\nu 13 3\nu 18 15\nu 19 17\ne 20",
+        2048,
+        6144,
+    ),
+    (
+        "a first resolve with no clash",
+        b"p t 2\nf ((1>2)&(1&-2))\nu 12 1\nu 12 10\nu 14 6\nu 14 7\nu 16 5\nu 13 3\nu 18 15\nu 19 17\ne 20\n",
+        2048,
+        6144,
+    ),
+    (
+        "shown with both on",
+        b"p t 2\nf ((1>2)&(1&-2))\nv 11\nu 12 10\nu 14 6\nu 14 7\nu 16 5\nu 13 3\nu 18 15\nu 19 17\ne 20\n",
+        2048,
+        6144,
+    ),
+    (
+        "shown with one digit",
+        b"p t 2\nf ((1>2)&(1&-2))\nv 1\nu 12 10\nu 14 6\nu 14 7\nu 16 5\nu 13 3\nu 18 15\nu 19 17\ne 20\n",
+        2048,
+        6144,
+    ),
+    (
+        "a gate behind the root",
+        b"p t 2\nf ((1>2)&(1&-2))\ng 1 1 2\nu 12 10\nu 14 6\nu 14 7\nu 16 5\nu 13 3\nu 18 15\nu 19 17\ne 20\n",
         2048,
         6144,
     ),
