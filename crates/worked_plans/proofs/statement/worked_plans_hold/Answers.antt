@@ -1,5 +1,16 @@
-use Rattle.worked_plans.proofs.RowsHold.{every_row_holds}
+use Rattle.std.specs.Prelude.{refl}
+use Rattle.std.specs.Fmt.{digits}
+use Rattle.clauses.specs.Literals.{flip}
+use Rattle.books.specs.Book.{empty, given, clause_at, free_numbers, free_cells, written, struck}
+use Rattle.formulas.specs.Reading.{read}
 use Rattle.worked_plans.proofs.statement.worked_plans_hold.Goals as goal
 
+-- line and book of each row, computed; a line of this term for each list of rows
 pub returns : goal.returns
-returns c = every_row_holds
+unfolding digits flip empty given clause_at free_numbers free_cells written struck read
+returns c =
+    ((refl, refl), ((refl, refl), ((refl, refl), ((refl, refl), ((refl, refl), ((refl, refl), ((refl, refl), ((refl, refl), ((refl, refl), ((refl, refl),
+    ((refl, refl), ((refl, refl), ((refl, refl), ((refl, refl), ((refl, refl), ((refl, refl),
+    ((refl, refl), ((refl, refl), ((refl, refl),
+    ((refl, refl), ((refl, refl), ((refl, refl),
+    ((refl, refl), ((refl, refl), ((refl, refl), tt)))))))))))))))))))))))))
