@@ -1,5 +1,5 @@
 // At most so many items, kept in place: no memory is taken.
-ghost use Rattle.std.specs.Prelude.{◌≡◌, ◌+◌, ◌≤◌, ◌<◌, [], ◌∷◌, ◌++◌, length, Ok};
+ghost use Rattle.std.specs.Prelude.{◌≡◌, ◌+◌, ◌≤◌, ◌<◌, [], ◌∷◌, ◌++◌, length, Ok, ⊤};
 
 use crate::buffers::copy_at;
 use std::alloc::AllocError;
@@ -13,6 +13,10 @@ pub struct Few<T: Copy, const N: usize> {
 }
 
 impl<T: Copy, const N: usize> Clone for Few<T, N> {
+    ghost is_clone = { λ x y. y ≡ x };
+
+    ghost is_infallible = { λ _. ⊤ };
+
     fn clone(&self) -> Result<Few<T, N>, AllocError> {
         Ok(*self)
     }
