@@ -1,6 +1,5 @@
 -- Nodes, and the values of all signals: the switches' are given, each node's is its operator's on its operands.
-use Rattle.std.specs.Prelude.{◌≡◌, ℕ, ◌<◌, ◌≤◌, Bool, false, ◌&&◌, List, [], ◌∷◌, ◌++◌, map, length, ◌==◌, nat_lt, slice_index, slice_index_or}
-use Rattle.clauses.specs.Few.{items_of}
+use Rattle.std.specs.Prelude.{◌≡◌, ℕ, ◌<◌, ◌≤◌, Bool, false, ◌&&◌, List, [], ◌∷◌, ◌++◌, map, length, take, ◌==◌, nat_lt, slice_index, slice_index_or}
 use Rattle.gates.specs.declared.records.NodeRecord.{NodeRecord}
 use Rattle.gates.specs.Kinds.{Kind}
 
@@ -11,7 +10,7 @@ pub record Node : Type 0 where
 
 -- the node that a record keeps
 abbrev pub node_of : NodeRecord → Node
-node_of r = record { code = r.code; operands = items_of r.operands }
+node_of r = record { code = r.code; operands = take r.count r.operands }
 
 -- the value of the signal s, where the list has those of the signals 1, 2, .. in order; of any other signal, off
 abbrev pub value_at : List Bool → ℕ → Bool

@@ -19,7 +19,7 @@ fn put_in(node: &NodeRecord, output: u16, slot_literal: SlotLiteral) -> u32
     ensures { result ≡ put_in output (node_of node.now).operands slot_literal }
 {
     let signal = match slot_literal.slot {
-        Slot::Operand(i) => node.operands.as_slice()[i as usize],
+        Slot::Operand(i) => node.operands[i as usize],
         Slot::Output => output,
     };
     literal_of(signal, slot_literal.negated)

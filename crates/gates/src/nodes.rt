@@ -11,7 +11,7 @@ use clauses::few::Few;
 pub fn known<G: GateKind>(node: &NodeRecord) -> bool
     ensures { result ≡ known G.GateKind.kind (node_of node.now) }
 {
-    node.code < G::CODES && node.operands.len() == usize::from(G::operand_count(node.code))
+    node.code < G::CODES && node.count == G::operand_count(node.code)
 }
 
 // The value of a signal, counted from 1; of any other, off.
@@ -32,7 +32,7 @@ fn operand_row(node: &NodeRecord, values: &[bool]) -> Few<bool, 8>
     ensures { items_of result ≡ operand_row (node_of node.now) values.now }
 {
     let mut row = Few::new();
-    for signal in node.operands.as_slice() {
+    for signal in &node.operands[..usize::from(node.count)] {
         row.push(value_at(values, *signal));
     }
     row

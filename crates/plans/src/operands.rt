@@ -54,8 +54,5 @@ pub fn node_record<G: GateKind>(
     if !are_signals(signals, operands) {
         return Err(Refusal::NoSignal);
     }
-    Ok(NodeRecord {
-        code,
-        operands: narrowed(signals, operands),
-    })
+    Ok(NodeRecord::new(code, narrowed(signals, operands).as_slice()))
 }
