@@ -1,8 +1,7 @@
 // A run plan as it grows: switches, gates over earlier signals, and a root once it is complete.
-ghost use Rattle.std.specs.Prelude.{◌≡◌, ◌+◌, ◌≤◌, map, length};
+ghost use Rattle.std.specs.Prelude.{◌≡◌, ◌+◌, ◌≤◌};
 ghost use Rattle.clauses.specs.Limits.{max_switches, max_gates};
 ghost use Rattle.books.specs.Promise.{granted};
-ghost use Rattle.gates.specs.Nodes.{node_of};
 ghost use Rattle.model.specs.Plans.{node, begun, signals, complete, gate_answer, with_gate, root_answer, with_root};
 ghost use Rattle.plans.specs.PlanStates.{Begins, Copies};
 
@@ -12,6 +11,8 @@ use clauses::limits::{MAX_GATES, MAX_SWITCHES};
 use gates::{GateKind, NodeRecord};
 use std::alloc::Global;
 use std::marker::{Model, PhantomData};
+
+mod parts;
 
 // Memory for all gates is taken when a plan is begun.
 #[derive(Drop)]
@@ -50,30 +51,6 @@ impl<G: GateKind> Plan<G> {
             root: None,
             kind: PhantomData,
         })
-    }
-
-    // How many switches the plan has.
-    pub fn switches(&self) -> u16
-        ensures switches { result ≡ self.now.switches }
-        ensures some { 1 ≤ result }
-        ensures few { result ≤ max_switches }
-    {
-        self.switches
-    }
-
-    // Its gates in order.
-    pub fn gates(&self) -> &[NodeRecord]
-        ensures gates { map node_of result.now ≡ self.now.gates }
-        ensures few { length result.now ≤ max_gates }
-    {
-        self.gates.as_slice()
-    }
-
-    // Its root, if it is complete.
-    pub fn root_signal(&self) -> Option<u16>
-        ensures { result ≡ self.now.root }
-    {
-        self.root
     }
 
     // How many signals the plan has: switches and gates.
