@@ -1,14 +1,15 @@
 // Reading a formula: a switch's number, '-' and a formula, or '(', a formula, a sign, a formula and ')'.
-ghost use Rattle.std.specs.Prelude.{◌≡◌};
+ghost use Rattle.std.specs.Prelude.{◌≡◌, IfOk};
 ghost use Rattle.clauses.specs.Limits.{max_nesting};
 ghost use Rattle.gates.specs.TwoInput.{two_input};
+ghost use Rattle.plans.specs.PlanStates.{KeepsSizes};
 ghost use Rattle.texts.specs.Readers.{rest_of};
 ghost use Rattle.formulas.specs.Reading.{read as read_formula, outcome, then_root, formula_answer, formula_done, formula_plan};
 ghost use Rattle.formulas.specs.Trees.{ReadsExactly};
 
 use crate::parts::{read_close, read_sign, read_switch};
 use clauses::Refusal;
-use clauses::limits::{MAX_NESTING, MAX_SWITCHES, MAX_TEXT};
+use clauses::limits::{MAX_NESTING, MAX_TEXT};
 use gates::{GateKind, TwoInput};
 use plans::Plan;
 use texts::Reader;
@@ -46,6 +47,7 @@ fn read_whole<G: GateKind>(text: &[u8], plan: &mut Plan<G>) -> Result<(), Refusa
     ensures switches { plan.new.switches ≡ plan.old.switches }
     ensures answer { result ≡ formula_done (then_root (read_formula G.GateKind.kind max_nesting text.now plan.old)) }
     ensures granted { plan.new ≡ formula_plan (then_root (read_formula G.GateKind.kind max_nesting text.now plan.old)) plan.new }
+    ensures sizes { IfOk result (λ _. KeepsSizes plan.new) }
 {
     let mut reader = Reader::new(text);
     let signal = read(&mut reader, MAX_NESTING as u8, plan)?;
@@ -57,8 +59,10 @@ fn read_whole<G: GateKind>(text: &[u8], plan: &mut Plan<G>) -> Result<(), Refusa
 
 // Reads a whole text as one formula; refused, the plan is as it was.
 pub fn formula_of<G: GateKind>(plan: &mut Plan<G>, text: &[u8]) -> Result<(), Refusal>
+    ensures switches { plan.new.switches ≡ plan.old.switches }
     ensures answer { result ≡ formula_done (formula_answer G.GateKind.kind plan.old text.now) }
     ensures after { plan.new ≡ formula_plan (formula_answer G.GateKind.kind plan.old text.now) plan.old }
+    ensures sizes { KeepsSizes plan.new }
 {
     if plan.is_complete() || !plan.gates().is_empty() {
         return Err(Refusal::OutOfPlace);
@@ -77,9 +81,8 @@ pub fn formula_of<G: GateKind>(plan: &mut Plan<G>, text: &[u8]) -> Result<(), Re
 pub fn formula(plan: &mut Plan<TwoInput>, text: &[u8]) -> Result<(), Refusal>
     ensures answer { result ≡ formula_done (formula_answer two_input plan.old text.now) }
     ensures after { plan.new ≡ formula_plan (formula_answer two_input plan.old text.now) plan.old }
+    ensures sizes { KeepsSizes plan.new }
     ensures exact { ReadsExactly plan.old text.now result plan.new }
 {
-    // so few that a text can have the number of each
-    prove!(plan.switches() as usize <= MAX_SWITCHES);
     formula_of(plan, text)
 }

@@ -2,6 +2,7 @@
 ghost use Rattle.std.specs.Prelude.{◌≡◌, ◌<◌};
 ghost use Rattle.model.specs.Plans.{plan_clauses};
 ghost use Rattle.plans.specs.Demands.{demand_of, fits_in};
+ghost use Rattle.plans.specs.PlanStates.{KeepsSizes};
 
 use crate::plans::Plan;
 use crate::sinks::{ClauseSink, put_plan};
@@ -56,7 +57,8 @@ pub fn pattern_demand<G: GateKind>(code: u8) -> Demand
 
 // What the clauses of a plan need.
 pub fn plan_demand<G: GateKind>(plan: &Plan<G>) -> Demand
-    ensures { result ≡ demand_of (plan_clauses G.GateKind.kind plan.now) }
+    ensures demand { result ≡ demand_of (plan_clauses G.GateKind.kind plan.now) }
+    ensures sizes { KeepsSizes plan.now }
 {
     // so few that they can be counted
     prove!(plan.gates().len() <= MAX_GATES);

@@ -1,10 +1,9 @@
 // A run plan as it grows: switches, gates over earlier signals, and a root once it is complete.
-ghost use Rattle.std.specs.Prelude.{◌≡◌, ◌+◌, ◌≤◌, map, length};
+ghost use Rattle.std.specs.Prelude.{◌≡◌, ◌+◌, ◌≤◌, IfOk};
 ghost use Rattle.clauses.specs.Limits.{max_switches, max_gates};
 ghost use Rattle.books.specs.Promise.{granted};
-ghost use Rattle.gates.specs.Nodes.{node_of};
 ghost use Rattle.model.specs.Plans.{node, begun, signals, complete, gate_answer, with_gate, root_answer, with_root};
-ghost use Rattle.plans.specs.PlanStates.{Begins, Copies};
+ghost use Rattle.plans.specs.PlanStates.{KeepsSizes, Begins, Copies};
 
 use crate::operands::{is_signal, node_record};
 use clauses::Refusal;
@@ -12,6 +11,8 @@ use clauses::limits::{MAX_GATES, MAX_SWITCHES};
 use gates::{GateKind, NodeRecord};
 use std::alloc::Global;
 use std::marker::{Model, PhantomData};
+
+mod parts;
 
 // Memory for all gates is taken when a plan is begun.
 #[derive(Drop)]
@@ -39,7 +40,8 @@ impl<G: GateKind> Model for Plan<G> {
 impl<G: GateKind> Plan<G> {
     // A plan of 1 to 256 switches, with no gates yet.
     pub fn begin(heap: Global, switches: u32) -> Result<Plan<G>, Refusal>
-        ensures { Begins switches result }
+        ensures begins { Begins switches result }
+        ensures sizes { IfOk result KeepsSizes }
     {
         if switches < 1 || switches > MAX_SWITCHES as u32 {
             return Err(Refusal::Size);
@@ -52,41 +54,19 @@ impl<G: GateKind> Plan<G> {
         })
     }
 
-    // How many switches the plan has.
-    pub fn switches(&self) -> u16
-        ensures switches { result ≡ self.now.switches }
-        ensures some { 1 ≤ result }
-        ensures few { result ≤ max_switches }
-    {
-        self.switches
-    }
-
-    // Its gates in order.
-    pub fn gates(&self) -> &[NodeRecord]
-        ensures gates { map node_of result.now ≡ self.now.gates }
-        ensures few { length result.now ≤ max_gates }
-    {
-        self.gates.as_slice()
-    }
-
-    // Its root, if it is complete.
-    pub fn root_signal(&self) -> Option<u16>
-        ensures { result ≡ self.now.root }
-    {
-        self.root
-    }
-
     // How many signals the plan has: switches and gates.
     pub fn signals(&self) -> u16
         ensures signals { result ≡ signals self.now }
         ensures few { result ≤ max_switches + max_gates }
+        ensures sizes { KeepsSizes self.now }
     {
         self.switches + self.gates.len() as u16
     }
 
     // Whether it has a root.
     pub fn is_complete(&self) -> bool
-        ensures { result ≡ complete self.now }
+        ensures complete { result ≡ complete self.now }
+        ensures sizes { KeepsSizes self.now }
     {
         self.root.is_some()
     }
@@ -95,6 +75,7 @@ impl<G: GateKind> Plan<G> {
     pub fn gate(&mut self, code: u32, operands: &[u32]) -> Result<u32, Refusal>
         ensures answer { result ≡ gate_answer G.GateKind.kind self.old code operands.now }
         ensures after { self.new ≡ granted result (with_gate self.old (node code operands.now)) self.old }
+        ensures sizes { KeepsSizes self.new }
     {
         if self.is_complete() {
             return Err(Refusal::OutOfPlace);
@@ -112,6 +93,7 @@ impl<G: GateKind> Plan<G> {
     pub fn root(&mut self, signal: u32) -> Result<(), Refusal>
         ensures answer { result ≡ root_answer self.old signal }
         ensures after { self.new ≡ granted result (with_root self.old signal) self.old }
+        ensures sizes { KeepsSizes self.new }
     {
         if self.is_complete() {
             return Err(Refusal::OutOfPlace);
@@ -125,7 +107,8 @@ impl<G: GateKind> Plan<G> {
 
     // Takes gates and root away again.
     pub fn clear(&mut self)
-        ensures { self.new ≡ begun self.old.switches }
+        ensures after { self.new ≡ begun self.old.switches }
+        ensures sizes { KeepsSizes self.new }
     {
         self.gates.clear();
         self.root = None;
@@ -133,7 +116,8 @@ impl<G: GateKind> Plan<G> {
 
     // The same plan in memory of its own.
     pub fn copied(&self, heap: Global) -> Result<Plan<G>, Refusal>
-        ensures { Copies self.now result }
+        ensures copies { Copies self.now result }
+        ensures sizes { IfOk result KeepsSizes }
     {
         let mut gates = Vec::with_capacity(heap, MAX_GATES)?;
         gates.extend_from_slice(&self.gates)?;

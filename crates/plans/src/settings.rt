@@ -2,6 +2,7 @@
 ghost use Rattle.std.specs.Prelude.{◌≡◌, ◌≤◌, T, length};
 ghost use Rattle.model.specs.Plans.{true_under};
 ghost use Rattle.model.specs.Settings.{bit_at, setting_of, well_packed, count_on};
+ghost use Rattle.plans.specs.PlanStates.{KeepsSizes};
 ghost use Rattle.plans.specs.Showings.{setting_answer};
 
 use crate::plans::Plan;
@@ -71,7 +72,8 @@ fn true_under<G: GateKind>(plan: &Plan<G>, setting: &[u8]) -> bool
 
 // How many switches are on in a setting that makes the plan true.
 pub fn shown<G: GateKind>(plan: &Plan<G>, setting: &[u8]) -> Result<u16, Refusal>
-    ensures { result ≡ setting_answer G.GateKind.kind plan.now setting.now }
+    ensures answer { result ≡ setting_answer G.GateKind.kind plan.now setting.now }
+    ensures sizes { KeepsSizes plan.now }
 {
     if !well_packed(plan.switches(), setting) {
         return Err(Refusal::Setting);

@@ -4,6 +4,7 @@ ghost use Rattle.std.specs.List.{FoldsTo};
 ghost use Rattle.gates.specs.Nodes.{node_of};
 ghost use Rattle.gates.specs.GateClauses.{clauses_of};
 ghost use Rattle.model.specs.Plans.{nodes_clauses, plan_clauses};
+ghost use Rattle.plans.specs.PlanStates.{KeepsSizes};
 ghost use Rattle.plans.specs.Sinks.{CanPutAll};
 
 use crate::plans::Plan;
@@ -53,7 +54,8 @@ fn put_nodes<G: GateKind, S: ClauseSink>(sink: &mut S, nodes: &[NodeRecord], bef
 // Puts the clauses of a plan: those of each gate in order, last the root's.
 pub fn put_plan<G: GateKind, S: ClauseSink>(sink: &mut S, plan: &Plan<G>)
     requires { CanPutAll S.ClauseSink.can_put S.ClauseSink.put_gives sink.old (plan_clauses G.GateKind.kind plan.now) }
-    ensures { FoldsTo S.ClauseSink.put_gives sink.old (plan_clauses G.GateKind.kind plan.now) sink.new }
+    ensures clauses { FoldsTo S.ClauseSink.put_gives sink.old (plan_clauses G.GateKind.kind plan.now) sink.new }
+    ensures sizes { KeepsSizes plan.now }
 {
     put_nodes::<G, S>(sink, plan.gates(), plan.switches());
     if let Some(root) = plan.root_signal() {

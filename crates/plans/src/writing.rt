@@ -4,6 +4,7 @@ ghost use Rattle.gates.specs.Nodes.{node_of};
 ghost use Rattle.gates.specs.GateClauses.{clauses_of};
 ghost use Rattle.model.specs.Plans.{plan_clauses};
 ghost use Rattle.model.specs.Dockets.{has_room, all_written};
+ghost use Rattle.plans.specs.PlanStates.{KeepsSizes};
 
 use crate::plans::Plan;
 use crate::sinks::{ClauseSink, put_node, put_plan};
@@ -35,7 +36,8 @@ pub fn write_node<G: GateKind, B: ClauseBook>(book: &mut B, node: &NodeRecord, o
 // Writes the clauses of a plan: those of each gate in order, last the root's.
 pub fn write_plan<G: GateKind, B: ClauseBook>(book: &mut B, plan: &Plan<G>)
     requires { T (has_room (B.ClauseBook.meaning book.old) (plan_clauses G.GateKind.kind plan.now)) }
-    ensures { B.ClauseBook.meaning book.new ≡ all_written (B.ClauseBook.meaning book.old) (plan_clauses G.GateKind.kind plan.now) }
+    ensures written { B.ClauseBook.meaning book.new ≡ all_written (B.ClauseBook.meaning book.old) (plan_clauses G.GateKind.kind plan.now) }
+    ensures sizes { KeepsSizes plan.now }
 {
     put_plan(book, plan);
 }

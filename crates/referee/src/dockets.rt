@@ -1,6 +1,7 @@
 // A docket: a complete plan, the clause book that it owns, the definitions made, and how it stands.
 ghost use Rattle.std.specs.Prelude.{◌≤◌, vec_len, vec_capacity};
 ghost use Rattle.clauses.specs.Limits.{max_signals};
+ghost use Rattle.plans.specs.PlanStates.{KeepsSizes};
 
 use books::ClauseBook;
 use gates::{GateKind, NodeRecord};
@@ -47,5 +48,5 @@ pub struct Docket<G: GateKind, B: ClauseBook> {
     definitions: Vec<NodeRecord>,
     standing: Standing,
     book: B,
-    ghost sizes: { (vec_len definitions ≤ max_signals) × (max_signals ≤ vec_capacity definitions) },
+    ghost sizes: { KeepsSizes plan × (vec_len definitions ≤ max_signals) × (max_signals ≤ vec_capacity definitions) },
 }

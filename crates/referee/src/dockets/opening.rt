@@ -3,6 +3,7 @@ ghost use Rattle.std.specs.Prelude.{◌≡◌, ◌≤◌, [], MatchResult, vec_l
 ghost use Rattle.clauses.specs.declared.refusals.Refusal.TheVariants.{OutOfMemory};
 ghost use Rattle.clauses.specs.Limits.{max_signals};
 ghost use Rattle.model.specs.Dockets.{open_answer};
+ghost use Rattle.plans.specs.PlanStates.{KeepsSizes};
 ghost use Rattle.referee.specs.DocketStates.{OpenGives};
 
 use super::Docket;
@@ -18,7 +19,8 @@ use std::alloc::Global;
 
 // Whether the plan is complete, the book empty, and there is room for the plan's clauses.
 fn may_open<G: GateKind, B: ClauseBook>(plan: &Plan<G>, book: &B) -> Result<(), Refusal>
-    ensures { result ≡ open_answer G.GateKind.kind plan.now (B.ClauseBook.meaning book.now) }
+    ensures answer { result ≡ open_answer G.GateKind.kind plan.now (B.ClauseBook.meaning book.now) }
+    ensures sizes { KeepsSizes plan.now }
 {
     if !plan.is_complete() {
         return Err(Refusal::OutOfPlace);
@@ -47,7 +49,8 @@ impl<G: GateKind, B: ClauseBook> Docket<G, B> {
     // Writes the plan's clauses into the book; refused, the book comes back as it was. It goes out with the refusal, so there is
     // no `?`.
     pub fn open(heap: Global, plan: &Plan<G>, mut book: B) -> Result<Docket<G, B>, (Refusal, B)>
-        ensures { OpenGives G.GateKind.kind B.ClauseBook.meaning plan.now book result }
+        ensures gives { OpenGives G.GateKind.kind B.ClauseBook.meaning plan.now book result }
+        ensures sizes { KeepsSizes plan.now }
     {
         if let Err(refusal) = may_open(plan, &book) {
             return Err((refusal, book));

@@ -3,6 +3,7 @@ ghost use Rattle.std.specs.Prelude.{◌≡◌};
 ghost use Rattle.books.specs.Book.{clause_at};
 ghost use Rattle.books.specs.Promise.{length_answer, read_buffer};
 ghost use Rattle.model.specs.Dockets.{in_use};
+ghost use Rattle.plans.specs.PlanStates.{KeepsSizes};
 ghost use Rattle.referee.specs.DocketStates.{state_of};
 
 use super::Docket;
@@ -44,7 +45,8 @@ impl<G: GateKind, B: ClauseBook> Docket<G, B> {
 
     // The plan, to read from.
     pub fn plan(&self) -> &Plan<G>
-        ensures { result.now ≡ self.now.plan }
+        ensures plan { result.now ≡ self.now.plan }
+        ensures sizes { KeepsSizes result.now }
     {
         &self.plan
     }

@@ -12,4 +12,4 @@ returns-in-Err g c =
     let b = g.B.ClauseBook.meaning c.args.book in
     let l = c.args.lines.now in
     turned_down_as g.B.ClauseBook.meaning c.args.book _ l.number _ (open_answer K p b) (step_lines K (opened K p b) l.number (left l)) _
-    c.turned_down.ensures c.in-Err.ensures.0 c.in-Err.ensures.1
+    c.turned_down.ensures c.in-Err.ensures.gives.0 c.in-Err.ensures.gives.1

@@ -14,5 +14,5 @@ put_plan-requires g c =
     let few = plan_few g.G.GateKind.kind g.met.G.GateKind.sized p gates in
     can_count (plan_clauses g.G.GateKind.kind p) _ (omega arith) (omega arith)
 
-pub returns : goal.returns
-returns g c = counted (plan_clauses g.G.GateKind.kind c.args.plan.now) _ _ c.put_plan.ensures ∙ ap₂ (λ (n m : ℕ). record { numbers = n; cells = m }) (omega arith) (omega arith)
+pub returns-clause-demand : goal.returns-clause-demand
+returns-clause-demand g c = counted (plan_clauses g.G.GateKind.kind c.args.plan.now) _ _ c.put_plan.ensures.clauses ∙ ap₂ (λ (n m : ℕ). record { numbers = n; cells = m }) (omega arith) (omega arith)

@@ -29,4 +29,4 @@ pub returns : goal.returns
 returns g c =
     c.value_at.ensures
     ∙ root_value g.G.GateKind.kind c.args.plan.now c.args.setting.now c.in-Some.root c.switches-switches.result _ _ c.gates.result.now c.unpack.new.values _ c.evaluate.new.values _
-    c.in-Some.ensures c.switches-switches.ensures.switches c.gates.ensures.gates (simp length-take (omega arith)) (omega arith) (search (rules, overwrites)) c.unpack.ensures c.evaluate.ensures
+    c.in-Some.ensures.root c.switches-switches.ensures.switches c.gates.ensures.gates (simp length-take (omega arith)) (omega arith) (search (rules, overwrites)) c.unpack.ensures c.evaluate.ensures

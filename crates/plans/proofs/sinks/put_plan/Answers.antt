@@ -6,7 +6,7 @@ pub put_nodes-requires-clause-room : goal.put_nodes-requires-clause-room
 put_nodes-requires-clause-room g c = room_for_gates g.S.ClauseSink.can_put g.S.ClauseSink.put_gives g.G.GateKind.kind c.args.plan.now _ _ c.switches.ensures.switches c.gates.ensures.gates _ c.requires
 
 pub put-requires-clause-room : goal.put-requires-clause-room
-put-requires-clause-room g c = room_for_root g.S.ClauseSink.can_put g.S.ClauseSink.put_gives g.G.GateKind.kind c.args.plan.now _ _ c.switches.ensures.switches c.gates.ensures.gates _ c.requires _ c.put_nodes.ensures _ c.in-Some.ensures _ c.literal_of.ensures
+put-requires-clause-room g c = room_for_root g.S.ClauseSink.can_put g.S.ClauseSink.put_gives g.G.GateKind.kind c.args.plan.now _ _ c.switches.ensures.switches c.gates.ensures.gates _ c.requires _ c.put_nodes.ensures _ c.in-Some.ensures.root _ c.literal_of.ensures
 
-pub returns-in-Some : goal.returns-in-Some
-returns-in-Some g c = with_root_put g.S.ClauseSink.can_put g.S.ClauseSink.put_gives g.G.GateKind.kind c.args.plan.now _ _ c.switches.ensures.switches c.gates.ensures.gates _ c.requires _ c.put_nodes.ensures _ c.in-Some.ensures _ c.literal_of.ensures _ c.put.ensures
+pub returns-in-Some-clause-clauses : goal.returns-in-Some-clause-clauses
+returns-in-Some-clause-clauses g c = with_root_put g.S.ClauseSink.can_put g.S.ClauseSink.put_gives g.G.GateKind.kind c.args.plan.now _ _ c.switches.ensures.switches c.gates.ensures.gates _ c.requires _ c.put_nodes.ensures _ c.in-Some.ensures.root _ c.literal_of.ensures _ c.put.ensures
