@@ -5,16 +5,20 @@ mod steps;
 
 use anyhow::anyhow;
 use books::{ChainedBook, NewBook, PackedBook};
-use clauses::Refusal;
 use std::alloc::Global;
 use steps::transcript;
 
 // The largest book, small ones, one without cells, one without numbers, and one of neither.
 const SIZES: [(u32, u32); 6] = [(2048, 6144), (9, 80), (3, 7), (4, 0), (0, 9), (0, 0)];
 
-// What a new book of these sizes answers to the steps.
-fn answers<B: NewBook + Drop>(heap: Global, numbers: u32, cells: u32) -> Result<String, Refusal> {
-    let book = B::new(heap, numbers, cells)?;
+// What a new book of these sizes answers to the steps; `name` says which book there was no memory for.
+fn answers<B: NewBook + Drop>(
+    heap: Global,
+    name: &str,
+    numbers: u32,
+    cells: u32,
+) -> anyhow::Result<String> {
+    let book = B::new(heap, numbers, cells).map_err(|_| anyhow!("no {name} book"))?;
     Ok(transcript(heap, book)?)
 }
 
@@ -29,12 +33,8 @@ fn making<B: NewBook + Drop>(heap: Global, numbers: u32, cells: u32) -> &'static
 fn run(rt: &HostRuntime) -> anyhow::Result<()> {
     let heap = rt.alloc();
     for (numbers, cells) in SIZES {
-        let first = answers::<PackedBook>(heap, numbers, cells).map_err(|_| anyhow!(
-            "no packed book"
-        ))?;
-        let second = answers::<ChainedBook>(heap, numbers, cells).map_err(|_| anyhow!(
-            "no chained book"
-        ))?;
+        let first = answers::<PackedBook>(heap, "packed", numbers, cells)?;
+        let second = answers::<ChainedBook>(heap, "chained", numbers, cells)?;
         println!(rt; "a book of {numbers} numbers and {cells} cells")?;
         print!(rt; "{first}")?;
         if first == second {

@@ -27,7 +27,7 @@ module _ (b : ChainedBook) where
   abbrev pub meaning_of : Book
   meaning_of = chained b.table (vec_items b.numbers.slots) b.numbers.most
 
-  standing_is : b.spare + standing_literals meaning_of ≡ length b.table
+  pub standing_is : b.spare + standing_literals meaning_of ≡ length b.table
   unfolding standing_literals
   standing_is = let spare = b.keeps.0 in omega (arith, cells_shared b.table (vec_items b.numbers.slots) b.free b.sound)
 

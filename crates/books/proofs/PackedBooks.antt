@@ -24,7 +24,7 @@ module _ (b : PackedBook) where
   abbrev pub meaning_of : Book
   meaning_of = packed (vec_items b.literals) (vec_items b.numbers.slots) b.numbers.most b.cells
 
-  standing_is : standing_literals meaning_of ≡ vec_len b.literals
+  pub standing_is : standing_literals meaning_of ≡ vec_len b.literals
   unfolding standing_literals
   standing_is = omega (arith, length-end_to_end meaning_of.slots, ap length b.laid.0.0)
 

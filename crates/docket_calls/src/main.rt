@@ -6,7 +6,6 @@ mod transcript;
 use anyhow::anyhow;
 use books::clause_book::{MAX_CELLS, MAX_NUMBERS};
 use books::{ChainedBook, NewBook, PackedBook};
-use clauses::Refusal;
 use gates::{GateKind, TwoInput, Wide};
 use plans::Plan;
 use referee::Call;
@@ -72,17 +71,18 @@ fn planned<G: GateKind>(
     Ok(plan)
 }
 
-// What a docket on a new book at its largest answers.
+// What a docket on a new book at its largest answers; `name` says which book or docket there was no memory for.
 fn answers<G: GateKind, B: NewBook + Drop>(
     heap: Global,
+    name: &str,
     plan: &Plan<G>,
     calls: &[Call],
-) -> Result<String, Refusal> {
-    let book = B::new(heap, MAX_NUMBERS, MAX_CELLS)?;
-    match transcript(heap, plan, book, calls) {
-        Ok((text, _)) => Ok(text),
-        Err((refusal, _)) => Err(refusal),
-    }
+) -> anyhow::Result<String> {
+    let book = B::new(heap, MAX_NUMBERS, MAX_CELLS).map_err(|_| anyhow!("no {name} book"))?;
+    let (text, _) = transcript(heap, plan, book, calls).map_err(|_| anyhow!(
+        "no docket on the {name} book"
+    ))?;
+    Ok(text)
 }
 
 // The same calls on both books; what the packed book's docket answered is printed.
@@ -92,12 +92,8 @@ fn follow<G: GateKind>(
     plan: &Plan<G>,
     calls: &[Call],
 ) -> anyhow::Result<()> {
-    let first = answers::<G, PackedBook>(rt.alloc(), plan, calls).map_err(|_| anyhow!(
-        "no docket on the packed book"
-    ))?;
-    let second = answers::<G, ChainedBook>(rt.alloc(), plan, calls).map_err(|_| anyhow!(
-        "no docket on the chained book"
-    ))?;
+    let first = answers::<G, PackedBook>(rt.alloc(), "packed", plan, calls)?;
+    let second = answers::<G, ChainedBook>(rt.alloc(), "chained", plan, calls)?;
     print!(rt; "{name}\n{first}")?;
     if first == second {
         println!(rt; "both books answer the same")?;

@@ -16,7 +16,7 @@ module _ (c : ℕ) (h : c < 17) (rows : List (Bor (List SlotLiteral))) (e : map 
   table_count : length rows ≡ length plain
   table_count = sym (length-map rows (λ x. x.now)) ∙ ap length e
 
-  count : length rows ≡ length (two_patterns c)
+  pub count : length rows ≡ length (two_patterns c)
   count = table_count ∙ sym (count_inverted plain (leb 8 c))
 
   -- what a read past the end of the row would give
@@ -24,7 +24,7 @@ module _ (c : ℕ) (h : c < 17) (rows : List (Bor (List SlotLiteral))) (e : map 
   d = record { ref_ptr = (0, 0); now = [] }
 
   module _ (i : ℕ) (k : i < length (two_patterns c)) where
-    row_within : i < length rows
+    pub row_within : i < length rows
     row_within = omega (arith, count)
 
     row_is : (get_or rows i d).now ≡ get_or plain i []

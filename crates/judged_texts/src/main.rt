@@ -13,16 +13,32 @@ mod plan_texts;
 mod steps;
 mod verdict_texts;
 
-use books::{ChainedBook, PackedBook};
+use anyhow::anyhow;
+use books::{ChainedBook, NewBook, PackedBook};
+use clauses::few::Few;
 use judge::verdict_line;
+use judge::verdict_lines::NoMemory;
 use parts::{Part, joined};
+use std::alloc::Global;
 use std::io::Write;
+
+// The verdict line on a text with a new book; `name` says which book there was no memory for.
+fn line_with<B: NewBook + Drop>(
+    heap: Global,
+    name: &str,
+    text: &[u8],
+) -> anyhow::Result<Few<u8, 32>> {
+    verdict_line::<B>(heap, text).map_err(|missing| match missing {
+        NoMemory::ForBook => anyhow!("no memory for a {name} book"),
+        NoMemory::ForPlan => anyhow!("no memory for a plan"),
+    })
+}
 
 // Prints the line that both books give.
 fn show(rt: &HostRuntime, name: &str, text: &[u8]) -> anyhow::Result<()> {
     let heap = rt.alloc();
-    let first = verdict_line::<PackedBook>(heap, text)?;
-    let second = verdict_line::<ChainedBook>(heap, text)?;
+    let first = line_with::<PackedBook>(heap, "packed", text)?;
+    let second = line_with::<ChainedBook>(heap, "chained", text)?;
     print!(rt; "{name}: ")?;
     if first.as_slice() == second.as_slice() {
         rt.stdout().write_all(first.as_slice())?;

@@ -18,7 +18,7 @@ module _ (K : Kind) (z : ℕ) (node : Node) where
     next_is = ap (λ ps. filter (λ c. not (both_ways c)) (map (instance z node.operands) ps)) (drop_more (node_patterns K node) i [] h)
 
     -- an instance that is kept is the next clause
-    next_kept : (n : ℕ) → Some n ≡ kept_length (instance_of K z node i) → (n ≡ length (instance_of K z node i)) × (clauses_left i ≡ instance_of K z node i ∷ clauses_left (i + 1))
+    pub next_kept : (n : ℕ) → Some n ≡ kept_length (instance_of K z node i) → (n ≡ length (instance_of K z node i)) × (clauses_left i ≡ instance_of K z node i ∷ clauses_left (i + 1))
     next_kept n e = go (instance_of K z node i) (both_ways (instance_of K z node i)) e next_is
       where
         go : (c : List ℕ) (b : Bool) → Some n ≡ cond b None (Some (length c)) → clauses_left i ≡ cond (not b) (c ∷ clauses_left (i + 1)) (clauses_left (i + 1)) → (n ≡ length c) × (clauses_left i ≡ c ∷ clauses_left (i + 1))

@@ -74,7 +74,7 @@ byte_bits bytes i j h =
     let r : (8 * i + j) % 8 ≡ j = omega arith in
     ap₂ (λ x y. digit_at (get_or bytes x 0) y) q r
 
-ones_more : (bytes : List ℕ) (i : ℕ) → get_or bytes i 0 < 256 → count_on (setting_of (8 * (i + 1)) bytes) ≡ count_on (setting_of (8 * i) bytes) + ones (get_or bytes i 0)
+pub ones_more : (bytes : List ℕ) (i : ℕ) → get_or bytes i 0 < 256 → count_on (setting_of (8 * (i + 1)) bytes) ≡ count_on (setting_of (8 * i) bytes) + ones (get_or bytes i 0)
 ones_more bytes i small =
     let f = bit_at bytes in
     let b = get_or bytes i 0 in
@@ -88,7 +88,7 @@ is_true : (b : Bool) → T b → b ≡ true
 is_true true t = refl
 is_true false t = absurd t
 
-enough_bytes : (n : ℕ) (bytes : List ℕ) → T (well_packed n bytes) → length bytes ≡ (n + 7) / 8
+pub enough_bytes : (n : ℕ) (bytes : List ℕ) → T (well_packed n bytes) → length bytes ≡ (n + 7) / 8
 enough_bytes n bytes packed = eqb-true _ _ (and_parts _ _ (is_true _ packed)).0
 
 no_spare : (n : ℕ) (bytes : List ℕ) → T (well_packed n bytes) → spare_bits n bytes ≡ 0
@@ -109,7 +109,7 @@ spare_off n bytes some packed j h =
     ap (λ x. digit_at (get_or bytes x 0) ((n + j) % 8)) q
     ∙ ap (λ x. eqb (x % 2) 1) (none_above (get_or bytes ((n - 1) / 8) 0) ((n - 1) % 8 + 1) ((n + j) % 8) above (no_spare n bytes packed))
 
-ones_all : (n : ℕ) (bytes : List ℕ) → 1 ≤ n → T (well_packed n bytes) → count_on (setting_of (8 * length bytes) bytes) ≡ count_on (setting_of n bytes)
+pub ones_all : (n : ℕ) (bytes : List ℕ) → 1 ≤ n → T (well_packed n bytes) → count_on (setting_of (8 * length bytes) bytes) ≡ count_on (setting_of n bytes)
 ones_all n bytes some packed =
     let f = bit_at bytes in
     let spare = 8 * length bytes - n in

@@ -11,7 +11,7 @@ use Rattle.gates.proofs.PatternSizes.{pattern_short}
 use Rattle.model.specs.Dockets.{literal_count}
 use Rattle.model.specs.Plans.{Plan, nodes_clauses, root_clauses, plan_clauses}
 
-literal_count-append : {A : Type 0} (cs ds : List (List A)) → literal_count (cs ++ ds) ≡ literal_count cs + literal_count ds
+pub literal_count-append : {A : Type 0} (cs ds : List (List A)) → literal_count (cs ++ ds) ≡ literal_count cs + literal_count ds
 literal_count-append [] ds = omega arith
 literal_count-append (c ∷ cs) ds = let ih = literal_count-append cs ds in omega arith
 
@@ -56,7 +56,7 @@ module _ (K : Kind) (sized : Sized K) where
       let literals = few_literals (K.patterns code) (λ i. pattern_short K sized code i h) in
       (count, omega arith)
 
-  node_few : (z : ℕ) (node : Node) → (length (clauses_of K z node) ≤ 16) × (literal_count (clauses_of K z node) ≤ 288)
+  pub node_few : (z : ℕ) (node : Node) → (length (clauses_of K z node) ≤ 16) × (literal_count (clauses_of K z node) ≤ 288)
   node_few z node = go (known K node) refl
     where
       go : (b : Bool) → known K node ≡ b → (length (kept z node.operands (cond b (K.patterns node.code) [])) ≤ 16) × (literal_count (kept z node.operands (cond b (K.patterns node.code) [])) ≤ 288)
@@ -66,7 +66,7 @@ module _ (K : Kind) (sized : Sized K) where
           (omega (arith, kept_count z node.operands ps), omega (arith, kept_literals z node.operands ps))
       go false e = (omega arith, omega arith)
 
-  nodes_few : (n : ℕ) (gs : List Node) → (length (nodes_clauses K n gs) ≤ 16 * length gs) × (literal_count (nodes_clauses K n gs) ≤ 288 * length gs)
+  pub nodes_few : (n : ℕ) (gs : List Node) → (length (nodes_clauses K n gs) ≤ 16 * length gs) × (literal_count (nodes_clauses K n gs) ≤ 288 * length gs)
   nodes_few n [] = (omega arith, omega arith)
   nodes_few n (g ∷ gs) =
       let (count, literals) = node_few (n + 1) g in

@@ -6,3 +6,4 @@ pub mod GateCases
 pub mod PlanPut
 pub mod Putting
 pub mod Room
+pub mod SameReasons
