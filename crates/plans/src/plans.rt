@@ -117,12 +117,13 @@ impl<G: GateKind> Plan<G> {
     // The same plan in memory of its own.
     pub fn copied(&self, heap: Global) -> Result<Plan<G>, Refusal>
         ensures copies { Copies self.now result }
-        ensures sizes { IfOk result KeepsSizes }
+        ensures sizes { KeepsSizes self.now }
     {
+        let switches = self.switches();
         let mut gates = Vec::with_capacity(heap, MAX_GATES)?;
         gates.extend_from_slice(&self.gates)?;
         Ok(Plan {
-            switches: self.switches,
+            switches,
             gates,
             root: self.root,
             kind: PhantomData,
