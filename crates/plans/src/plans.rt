@@ -108,6 +108,7 @@ impl<G: GateKind> Plan<G> {
     // Takes gates and root away again.
     pub fn clear(&mut self)
         ensures after { self.new ≡ begun self.old.switches }
+        ensures before { KeepsSizes self.old }
         ensures sizes { KeepsSizes self.new }
     {
         self.gates.clear();
