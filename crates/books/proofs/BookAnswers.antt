@@ -28,12 +28,9 @@ err_none (Some y) r e = let z : ◌≡◌ {A = ℕ} 0 1 = cc in absurd (omega ar
 pub sizes_within : (t l : ℕ) → ◌≡◌ {A = Result (Unit {0}) Refusal} (Ok tt) (sizes_answer t l) → (t ≤ max_numbers) × (l ≤ max_cells)
 sizes_within t l e = grind (arith, nat_tests)
 
--- room that there is, and why there is none
+-- room that there is
 pub room_there : (t l n : ℕ) → ◌≡◌ {A = Result (Unit {0}) Refusal} (Ok tt) (room_answer t l n) → (1 ≤ t) × (n ≤ l) × (n ≤ max_literals)
 room_there t l n e = grind (arith, nat_tests)
-
-pub write_refused : (b : Book) (c : List ℕ) (r : Refusal) → ◌≡◌ {A = Result (Unit {0}) Refusal} (Err r) (room_answer (free_numbers b) (free_cells b) (length c)) → Err r ≡ write_answer b c
-write_refused b c r e = grind (arith, nat_tests)
 
 -- a literal that was looked up in a clause that stands
 pub literal_looked_up : (c : List ℕ) (i : ℕ) → ok_or (slice_get c i) NoClause ≡ literal_answer (Some c) i

@@ -34,10 +34,13 @@ byte_more d ds = omega (arith, as_bit (is_on d))
 pub digits_more : (d : ℕ) (ds front rest digits : List ℕ) → rest ≡ front ++ d ∷ [] → digits ≡ rest ++ ds → digits ≡ front ++ (d ∷ ds)
 digits_more d ds front rest digits s e = e ∙ rw (s, append_assoc) refl
 
-pub byte_fits : (d : ℕ) (ds front rest digits : List ℕ) → rest ≡ front ++ d ∷ [] → digits ≡ rest ++ ds → length digits ≤ 8 → 2 * byte_of ds + bool_byte (eqb d 49) < 256
+pub byte_fits : (d : ℕ) (ds front rest digits : List ℕ) → rest ≡ front ++ d ∷ [] → digits ≡ rest ++ ds → length digits ≤ 8 → 2 * byte_of ds + 1 < 256
 byte_fits d ds front rest digits s e few =
     let n : length (d ∷ ds) ≤ 8 = omega (arith, simp length-append at (ap length (digits_more d ds front rest digits s e))) in
-    omega (arith, byte_more d ds, byte_small 8 (d ∷ ds) n)
+    omega (arith, byte_small 7 ds (omega arith))
+
+pub bit_at_most : (b : Bool) → bool_byte b ≤ 1
+bit_at_most b = omega (arith, as_bit b, bit_small b)
 
 pub all_read : (rest ds digits : List ℕ) → digits ≡ rest ++ ds → length rest ≡ 0 → byte_of digits ≡ byte_of ds
 all_read [] ds digits e h = ap byte_of e
@@ -62,6 +65,10 @@ eight_more x [] ds e size some =
 eight_more x (r ∷ rest) ds e size some =
     let k : length x ≡ 8 = omega (arith, simp length-append at (ap length e)) in
     first_eight ds some ∙ rw (e, take_at x (r ∷ rest) 8 k, drop_at x (r ∷ rest) 8 k) refl
+
+-- a byte that is pushed stands between those that were and those that follow
+pub byte_pushed : (pushed after packed rest all : List ℕ) (byte first : ℕ) → after ≡ pushed ++ byte ∷ [] → packed ≡ first ∷ rest → byte ≡ first → pushed ++ packed ≡ all → after ++ rest ≡ all
+byte_pushed pushed after packed rest all byte first a p b e = rw (a, append_assoc, b, ← p) e
 
 pub length_bytes : (ds : List ℕ) → length (bytes_of ds) ≡ (length ds + 7) / 8
 length_bytes ds = length-map-range_with_len (λ i. byte_of (take 8 (drop (8 * i) ds))) 0 ((length ds + 7) / 8)

@@ -1,9 +1,10 @@
 -- One more digit in front of those that were read.
 use Rattle.std.proofs.Common.{◌≡◌, [], ◌∷◌, sym, refl, ◌∙◌, arith}
 use Rattle.std.proofs.lemmas.List.{append-nil}
+use Rattle.std.proofs.lemmas.Bool.Decides.{nat_tests}
 use Rattle.std.specs.Iterator.Adapters.{rev_source}
 use Rattle.std.specs.Slice.Iter.{iter_rest}
-use Rattle.verdicts.proofs.DigitBytes.{byte_more, byte_fits, digits_more, all_read}
+use Rattle.verdicts.proofs.DigitBytes.{byte_more, byte_fits, bit_at_most, digits_more, all_read}
 use Rattle.verdicts.proofs.digits.byte_of.Goals as goal
 
 pub loop-digit-init : goal.loop-digit-init
@@ -14,19 +15,19 @@ loop-digit-init c =
 pub overflow_mul-byte : goal.overflow_mul-byte
 overflow_mul-byte c =
     let h = c.loop-digit.invariant in
-    omega (arith, byte_fits c.in-Some.digit.now h.0 _ _ _ c.in-Some.ensures.steps h.1 c.requires, h.2)
+    omega (arith, byte_fits c.in-Some.digit.now h.0 _ _ _ c.in-Some.ensures.steps h.1 c.requires, h.2, bit_at_most)
 
 pub overflow_add-byte : goal.overflow_add-byte
 overflow_add-byte c =
     let h = c.loop-digit.invariant in
-    omega (arith, byte_fits c.in-Some.digit.now h.0 _ _ _ c.in-Some.ensures.steps h.1 c.requires, h.2)
+    omega (arith, byte_fits c.in-Some.digit.now h.0 _ _ _ c.in-Some.ensures.steps h.1 c.requires, h.2, bit_at_most)
 
 pub loop-digit-preserved : goal.loop-digit-preserved
 loop-digit-preserved c =
     let h = c.loop-digit.invariant in (
       c.in-Some.digit.now ∷ h.0,
       digits_more c.in-Some.digit.now h.0 _ _ _ c.in-Some.ensures.steps h.1,
-      omega (arith, byte_more c.in-Some.digit.now h.0, h.2),
+      grind (arith, nat_tests, byte_more c.in-Some.digit.now h.0, h.2),
     )
 
 pub returns : goal.returns

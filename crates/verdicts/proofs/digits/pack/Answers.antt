@@ -1,9 +1,7 @@
 -- The byte of eight digits more; there are at most 32.
-use Rattle.std.proofs.Common.{◌≡◌, [], ◌∷◌, length, min, ap, ◌∙◌, lit<, arith, append_assoc, length-append}
+use Rattle.std.proofs.Common.{◌≡◌, length, min, ap, ◌∙◌, lit<, arith, length-append}
 use Rattle.std.specs.Slice.Iter.{chunks_rest}
-use Rattle.clauses.specs.Few.{items_of}
-use Rattle.verdicts.specs.Digits.{bytes_of}
-use Rattle.verdicts.proofs.DigitBytes.{eight_more, length_bytes}
+use Rattle.verdicts.proofs.DigitBytes.{eight_more, length_bytes, byte_pushed}
 use Rattle.verdicts.proofs.digits.pack.Goals as goal
 
 pub push-requires : goal.push-requires
@@ -18,6 +16,4 @@ pub loop-eight-preserved : goal.loop-eight-preserved
 loop-eight-preserved c =
     let s = c.in-Some.ensures.steps.1 in
     let size : length c.in-Some.eight.now ≡ min 8 (length (chunks_rest c.loop-eight.eight-iterator)) = rw c.loop-eight.invariant.0 at s.1 in
-    let one = eight_more c.in-Some.eight.now _ _ s.0 size s.2 in
-    let front = append_assoc (items_of c.loop-eight.packed) (c.byte_of.result ∷ []) (bytes_of (chunks_rest c.next.new.self)) in
-    (c.in-Some.ensures.steps.0 ∙ c.loop-eight.invariant.0, cc)
+    (c.in-Some.ensures.steps.0 ∙ c.loop-eight.invariant.0, byte_pushed _ _ _ _ _ _ _ c.push.ensures (eight_more c.in-Some.eight.now _ _ s.0 size s.2) (omega arith) c.loop-eight.invariant.1)
