@@ -1,29 +1,26 @@
 use Rattle.std.proofs.Common.{◌≤◌, Some, Ok, sym, ap, ◌∙◌, length, arith}
 use Rattle.clauses.specs.Limits.{max_literals}
-use Rattle.books.specs.Book.{slot_size}
 use Rattle.std.proofs.lemmas.Bool.Decides.{nat_tests}
+use Rattle.books.specs.Book.{slot_size, free_numbers, free_cells}
 use Rattle.books.proofs.BookAnswers.{write_granted, room_there}
 use Rattle.books.proofs.BookEntries.{each_push}
 use Rattle.books.proofs.PackedLayout.{laid_out}
 use Rattle.books.proofs.PackedBooks.{packed_sized, meaning_of, given_is, free_numbers_is, free_cells_is, written_laid, written_means}
 use Rattle.books.proofs.packed.PackedBookClauseBook.write.Goals as goal
 
-pub returns-in_err-check_room-clause-answer : goal.returns-in_err-check_room-clause-answer
-returns-in_err-check_room-clause-answer c = grind (arith, nat_tests, c.in_err-check_room.ensures, c.from_residual.ensures)
-
 pub unwrap-requires : goal.unwrap-requires
 unwrap-requires c =
-    let r = room_there c.free_numbers.result c.free_cells.result (length c.args.literals.now) (grind (arith, nat_tests, c.in_ok-check_room.ensures)) in
+    let r = room_there (free_numbers (meaning_of c.args.self.now)) (free_cells (meaning_of c.args.self.now)) (length c.args.literals.now) (grind (arith, nat_tests, c.in_ok-check_room.ensures)) in
     c.extend_from_slice.ensures.succeeds (omega (arith, free_cells_is c.args.self.now))
 
 pub give-requires : goal.give-requires
 give-requires c =
-    let r = room_there c.free_numbers.result c.free_cells.result (length c.args.literals.now) (grind (arith, nat_tests, c.in_ok-check_room.ensures)) in
+    let r = room_there (free_numbers (meaning_of c.args.self.now)) (free_cells (meaning_of c.args.self.now)) (length c.args.literals.now) (grind (arith, nat_tests, c.in_ok-check_room.ensures)) in
     omega (arith, free_numbers_is c.args.self.now)
 
 pub invariant_of-self : goal.invariant_of-self
 invariant_of-self c =
-    let r = room_there c.free_numbers.result c.free_cells.result (length c.args.literals.now) (grind (arith, nat_tests, c.in_ok-check_room.ensures)) in
+    let r = room_there (free_numbers (meaning_of c.args.self.now)) (free_cells (meaning_of c.args.self.now)) (length c.args.literals.now) (grind (arith, nat_tests, c.in_ok-check_room.ensures)) in
     let b = c.args.self.now in
     let len = rw c.unwrap.ensures at c.extend_from_slice.ensures.len in
     let n = free_numbers_is b in
@@ -39,7 +36,7 @@ invariant_of-self c =
 
 pub returns : goal.returns
 returns c =
-    let r = room_there c.free_numbers.result c.free_cells.result (length c.args.literals.now) (grind (arith, nat_tests, c.in_ok-check_room.ensures)) in
+    let r = room_there (free_numbers (meaning_of c.args.self.now)) (free_cells (meaning_of c.args.self.now)) (length c.args.literals.now) (grind (arith, nat_tests, c.in_ok-check_room.ensures)) in
     let b = c.args.self.now in
     let items = rw c.unwrap.ensures at c.extend_from_slice.ensures.items in
     let lays = written_laid b c.args.literals.now _ _ _ _ items c.give.ensures.slots (omega arith) (omega arith) in
